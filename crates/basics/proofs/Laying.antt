@@ -1,0 +1,94 @@
+-- Laws of `laidAt` and `putAt`: layings one after the other. Assumes nothing.
+use Prim.Native.Nat.{ℕ, suc, _+_, _≤_, _<_}
+use mathlib.Core.Path.{_≡_, refl, sym, ap, _∙_}
+use mathlib.Core.List.{List, [], _∷_, _++_, append-assoc, append-nil}
+use native.Mathlib.Nat.{add-zero, zero-add}
+use native.Mathlib.Numerals.{add-one}
+use native.Mathlib.Omega.{arith}
+use borrow.Author.Tests.{le-leb, lt-leb}
+use lib.Dec.{leb}
+use lib.ListN.{length, getD, set, take, drop, length-append, length-take, length-drop, take-append-drop}
+use lib.Seq.{take-at, drop-at, drop-drop, sets, sets-eq, take-suc}
+use Rattle.basics.specs.Choice.{if_then_else_}
+use Rattle.basics.specs.Lay.{laidAt, fitsAt, putAt, Laid}
+use Rattle.basics.proofs.Cases.{if-yes, if-no}
+
+module _ (t : List ℕ) (p : ℕ) where
+  -- laying what has room keeps the buffer's length
+  pub length-laid : (w : List ℕ) → p + length w ≤ length t → length (laidAt t p w) ≡ length t
+  unfolding laidAt
+  length-laid w h = simp (length-append, length-take, length-drop) (omega arith)
+
+  pub laid-none : laidAt t p [] ≡ t
+  unfolding laidAt
+  laid-none = rw (append-nil, add-zero, take-append-drop)
+
+  -- one after the other is both at once
+  pub laid-laid : (v w : List ℕ) (q : ℕ) → q ≡ p + length v → q + length w ≤ length t → laidAt (laidAt t p v) q w ≡ laidAt t p (v ++ w)
+  unfolding laidAt
+  laid-laid v w q e h =
+      let len : length (take p t ++ v) ≡ q = simp (length-append, length-take) (omega arith) in
+      let far : (p + length v) + length w ≡ p + length (v ++ w) = simp length-append (omega arith) in
+      let back : drop (q + length w) (take p t ++ v ++ drop (p + length v) t) ≡ drop (p + length (v ++ w)) t =
+      sym (drop-drop (length w) q (take p t ++ v ++ drop (p + length v) t))
+      ∙ ap (λ (l : List ℕ). drop (length w) l) (drop-at (take p t ++ v) (drop (p + length v) t) q len)
+      ∙ drop-drop (length w) (p + length v) t
+      ∙ ap (λ (k : ℕ). drop k t) far in
+      rw (back, take-at (take p t ++ v) (drop (p + length v) t) q len) (ap (λ (l : List ℕ). l ++ drop (p + length (v ++ w)) t) (append-assoc (take p t) v w))
+
+  -- stores one by one of a list that is written out
+  pub laid-sets : (w : List ℕ) → p + length w ≤ length t → sets t p w ≡ laidAt t p w
+  unfolding laidAt
+  laid-sets w h = sets-eq w t p h
+
+  -- a store with room lays its bytes, and one without leaves the buffer
+  pub put-fits : (w : List ℕ) → p + length w ≤ length t → putAt t p w ≡ laidAt t p w
+  put-fits w h = sym (if-yes (fitsAt t p w) (laidAt t p w) t (laidAt t p w) (le-leb (p + length w) (length t) h) refl)
+
+  pub put-not : (w : List ℕ) → length t < p + length w → putAt t p w ≡ t
+  put-not w h = sym (if-no (fitsAt t p w) (laidAt t p w) t t (lt-leb (p + length w) (length t) h) refl)
+
+-- a store with room, behind what is laid already
+pub laid-put : (t : List ℕ) (p : ℕ) (v w : List ℕ) (q : ℕ) → q ≡ p + length v → q + length w ≤ length t → putAt (laidAt t p v) q w ≡ laidAt t p (v ++ w)
+laid-put t p v w q e h =
+    let len : length (laidAt t p v) ≡ length t = length-laid t p v (omega arith) in
+    put-fits (laidAt t p v) q w (omega arith) ∙ laid-laid t p v w q e h
+
+-- one byte more
+pub laid-next : (t : List ℕ) (p : ℕ) (v : List ℕ) (x q : ℕ) → q ≡ p + length v → q + 1 ≤ length t → set (laidAt t p v) q x ≡ laidAt t p (v ++ (x ∷ []))
+laid-next t p v x q e h =
+    let len : length (laidAt t p v) ≡ length t = length-laid t p v (omega arith) in
+    laid-sets (laidAt t p v) q (x ∷ []) (omega arith) ∙ laid-laid t p v (x ∷ []) q e h
+
+-- laid at the front, w stands first
+pub laid-front : (t w : List ℕ) → laidAt t 0 w ≡ w ++ drop (length w) t
+unfolding laidAt
+laid-front t w = rw zero-add
+
+-- the part of s before i + 1 ends with what stands at i
+pub take-next : (s : List ℕ) (i : ℕ) → i < length s → take (i + 1) s ≡ take i s ++ (getD s i 0 ∷ [])
+take-next s i h = rw add-one (take-suc s i 0 h)
+
+-- a store with room, as the next writer sees it
+pub laid-by-put : {t u : List ℕ} {p q m : ℕ} {w : List ℕ} → q ≡ p + length w → q ≤ p + m → q ≤ length t → u ≡ putAt t p w → Laid t u p q m w
+laid-by-put {t} {u} {p} {q} {m} {w} e h f s = record { place = e; most = h; fits = f; holds = s ∙ put-fits t p w (omega arith) }
+
+-- nothing laid yet
+pub laid-nothing : {t : List ℕ} {p m : ℕ} → p ≤ length t → Laid t t p p m []
+laid-nothing {t} {p} {m} h = record { place = omega arith; most = omega arith; fits = h; holds = sym (laid-none t p) }
+
+-- no more than some number is no more than a greater one
+pub laid-within : {t u : List ℕ} {p q m n : ℕ} {w : List ℕ} → m ≤ n → Laid t u p q m w → Laid t u p q n w
+laid-within h a = record { place = a .place; most = omega (arith, a .most); fits = a .fits; holds = a .holds }
+
+-- two writers one after the other
+pub then-laid : {t u s : List ℕ} {p q r m n : ℕ} {v w : List ℕ} → Laid t u p q m v → Laid u s q r n w → Laid t s p r (m + n) (v ++ w)
+then-laid {t} {u} {s} {p} {q} {r} {m} {n} {v} {w} a b =
+    let len : length u ≡ length t = ap length (a .holds) ∙ length-laid t p v (omega (arith, a .place, a .fits)) in
+    let far : r ≤ length t = omega (arith, b .fits) in
+    record {
+      place = simp length-append (omega (arith, a .place, b .place));
+      most = omega (arith, a .most, b .most);
+      fits = far;
+      holds = b .holds ∙ rw (a .holds) (laid-laid t p v w q (a .place) (omega (arith, b .place)));
+    }

@@ -1,0 +1,8 @@
+pub mod Cases
+pub mod Iterating
+pub mod Laying
+pub mod Table
+pub mod Widths
+pub mod Words
+pub mod OneAnswer
+pub mod Tests

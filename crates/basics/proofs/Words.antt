@@ -1,0 +1,30 @@
+-- Laws of bytes and bits as numbers. Assumes nothing.
+use Prim.Native.Nat.{ℕ, _*_, _<_, _≤_}
+use mathlib.Core.Path.{_≡_}
+use mathlib.Core.Bool.{Bool, true, false}
+use native.Mathlib.Nat.{mul-le-mul}
+use native.Mathlib.Omega.{arith}
+use lib.Dec.{lit<}
+use Rattle.basics.specs.Bits.{num, wordOf, highOf, lowOf}
+
+pub word-of-bytes : (x : ℕ) → wordOf (highOf x) (lowOf x) ≡ x
+word-of-bytes x = omega arith
+
+pub high-of-word : (high low : ℕ) → low < 256 → highOf (wordOf high low) ≡ high
+high-of-word high low l = omega arith
+
+pub low-of-word : (high low : ℕ) → low < 256 → lowOf (wordOf high low) ≡ low
+low-of-word high low l = omega arith
+
+-- a yes or no as a number is below 2
+pub num-lt : (yes : Bool) → num yes < 2
+num-lt true = lit< tt
+num-lt false = lit< tt
+
+-- and so is a result that is one
+pub number-lt : (n : ℕ) (t : Bool) → n ≡ num t → n < 2
+number-lt n t e = rw e (num-lt t)
+
+-- the product of two bytes
+pub bytes-product : (a b : ℕ) → a < 256 → b < 256 → a * b ≤ 65025
+bytes-product a b p q = mul-le-mul {n₂ = 255} {m₂ = 255} (omega arith) (omega arith)

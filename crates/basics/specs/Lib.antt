@@ -1,0 +1,5 @@
+pub mod Choice
+pub mod Bits
+pub mod Iterate
+pub mod Width
+pub mod Lay
