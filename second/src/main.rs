@@ -1,0 +1,55 @@
+//! The program: a batch on standard input, its listing or its whole output on
+//! standard output.
+
+use std::env;
+use std::ffi::OsString;
+use std::io::{self, Read, Write};
+use std::process::ExitCode;
+
+use second::listing::{listing, MOST_INPUT_BYTES};
+use second::mode::{Mode, HELP};
+use second::room::{room_text, MOST_ROOM_INPUT_BYTES};
+
+const READING_OR_WRITING_FAILED: u8 = 1;
+const ARGUMENT_REFUSED: u8 = 2;
+
+fn main() -> ExitCode {
+    let arguments: Vec<OsString> = env::args_os().skip(1).collect();
+    match Mode::asked_for(&arguments) {
+        Err(message) => failure(ARGUMENT_REFUSED, &message),
+        Ok(mode) => match run(mode) {
+            Err(message) => failure(READING_OR_WRITING_FAILED, &message),
+            Ok(()) => ExitCode::SUCCESS,
+        },
+    }
+}
+
+fn failure(code: u8, message: &str) -> ExitCode {
+    // Nothing more can be done if even this message cannot be written.
+    let _ = writeln!(io::stderr(), "second: {message}");
+    ExitCode::from(code)
+}
+
+fn run(mode: Mode) -> Result<(), String> {
+    let text = match mode {
+        Mode::Listing => listing(&read(MOST_INPUT_BYTES)?),
+        Mode::Room => room_text(&read(MOST_ROOM_INPUT_BYTES)?),
+        Mode::Help => String::from(HELP),
+    };
+    let mut output = io::stdout().lock();
+    output
+        .write_all(text.as_bytes())
+        .and_then(|()| output.flush())
+        .map_err(|error| format!("cannot write the output: {error}"))
+}
+
+/// Reads one byte more than is allowed, so that an input too long is noticed.
+fn read(most: usize) -> Result<Vec<u8>, String> {
+    let mut input = Vec::new();
+    io::stdin()
+        .lock()
+        .take(most as u64 + 1)
+        .read_to_end(&mut input)
+        .map_err(|error| format!("cannot read the batch: {error}"))?;
+    Ok(input)
+}

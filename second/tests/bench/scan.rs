@@ -1,0 +1,227 @@
+//! The counters, the addresses they make, and the picture.
+
+use crate::trial::{Trial, CURSOR, DISPLAY_ENABLE, PICTURE, SETTING_A, VSYNC};
+
+const SHOWN: u8 = PICTURE | DISPLAY_ENABLE;
+
+#[test]
+fn three_frames_of_setting_a_character_by_character() {
+    // Memory address, line and flags of each of the 20 character times.
+    let on = SHOWN | VSYNC;
+    let off = VSYNC;
+    #[rustfmt::skip]
+    let frame = [
+        (0, 0, on | CURSOR), (1, 0, on), (2, 0, off), (3, 0, off),
+        (0, 1, on), (1, 1, on), (2, 1, off), (3, 1, off),
+        (2, 0, on), (3, 0, on), (4, 0, off), (5, 0, off),
+        (2, 1, on), (3, 1, on), (4, 1, off), (5, 1, off),
+        (4, 0, off), (5, 0, off), (6, 0, off), (7, 0, off),
+    ];
+    let mut trial = Trial::with(&SETTING_A);
+    for number in 0..3 {
+        for (time, expected) in frame.iter().enumerate() {
+            let seen = trial.now();
+            assert_eq!(
+                (seen.ma, seen.ra, seen.flags),
+                *expected,
+                "frame {number}, time {time}"
+            );
+            trial.clocks(1);
+        }
+    }
+}
+
+#[test]
+fn many_clocks_in_one_record_are_as_many_single_clocks() {
+    let mut at_once = Trial::with(&SETTING_A);
+    let mut singly = at_once;
+    at_once.clocks(1_013);
+    for _ in 0..1_013 {
+        singly.clocks(1);
+    }
+    assert_eq!(at_once.bench, singly.bench);
+}
+
+#[test]
+fn a_lowered_r0_lets_the_column_run_through_255() {
+    let mut trial = Trial::with(&[(0, 10), (4, 5)]);
+    trial.clocks(8);
+    trial.set(0, 5);
+    assert_eq!(trial.clocks(247).ma, 255);
+    assert_eq!((trial.column(), trial.row()), (255, 0));
+    trial.clocks(1);
+    assert_eq!((trial.column(), trial.row()), (0, 0));
+    trial.clocks(5);
+    assert_eq!((trial.column(), trial.row()), (5, 0));
+    trial.clocks(1);
+    assert_eq!((trial.column(), trial.row()), (0, 1));
+}
+
+#[test]
+fn a_lowered_r9_lets_the_line_run_through_31() {
+    let mut trial = Trial::with(&[(4, 5), (9, 10)]);
+    assert_eq!(trial.clocks(8).ra, 8);
+    trial.set(9, 5);
+    assert_eq!(trial.clocks(23).ra, 31);
+    assert_eq!(trial.clocks(1).ra, 0);
+    assert_eq!(trial.row(), 0);
+    assert_eq!(trial.clocks(5).ra, 5);
+    assert_eq!(trial.row(), 0);
+    assert_eq!(trial.clocks(1).ra, 0);
+    assert_eq!(trial.row(), 1);
+}
+
+#[test]
+fn a_lowered_r4_lets_the_row_run_through_127() {
+    let mut trial = Trial::with(&[(4, 10)]);
+    trial.clocks(8);
+    trial.set(4, 5);
+    trial.clocks(119);
+    assert_eq!((trial.row(), trial.field()), (127, 0));
+    trial.clocks(1);
+    assert_eq!((trial.row(), trial.field()), (0, 0));
+    trial.clocks(5);
+    assert_eq!((trial.row(), trial.field()), (5, 0));
+    trial.clocks(1);
+    assert_eq!((trial.row(), trial.field()), (0, 1));
+}
+
+#[test]
+fn adjust_lines_are_lines_and_not_rows() {
+    // One row of four lines and two more lines, three characters each.
+    let mut trial = Trial::with(&[(0, 2), (5, 2), (9, 3)]);
+    for _ in 0..3 {
+        assert_eq!(trial.measure_frame(), 3 * (4 + 2));
+    }
+}
+
+#[test]
+fn adjust_lines_count_up_from_line_0_in_a_row_of_their_own() {
+    let mut trial = Trial::with(&[(1, 7), (4, 1), (5, 3), (9, 1)]);
+    let expected = [
+        (0, 0, false, 0),
+        (1, 0, false, 0),
+        (0, 1, false, 7),
+        (1, 1, false, 7),
+        (0, 2, true, 14),
+        (1, 2, true, 14),
+        (2, 2, true, 14),
+        (0, 0, false, 0),
+    ];
+    for (time, wanted) in expected.iter().enumerate() {
+        let ma = trial.now().ma;
+        let seen = (trial.line(), trial.row(), trial.adjusting(), ma);
+        assert_eq!(seen, *wanted, "time {time}");
+        trial.clocks(1);
+    }
+}
+
+#[test]
+fn a_lowered_r5_lets_the_adjust_line_run_through_31() {
+    let mut trial = Trial::with(&[(5, 10)]);
+    trial.clocks(6);
+    assert!(trial.adjusting());
+    assert_eq!(trial.line(), 5);
+    trial.set(5, 3);
+    trial.clocks(26);
+    assert_eq!((trial.line(), trial.field()), (31, 0));
+    trial.clocks(3);
+    assert_eq!((trial.line(), trial.field()), (2, 0));
+    trial.clocks(1);
+    assert_eq!(
+        (trial.line(), trial.field(), trial.adjusting()),
+        (0, 1, false)
+    );
+}
+
+#[test]
+fn r5_made_zero_in_the_adjust_lines_ends_them_after_line_31() {
+    let mut trial = Trial::with(&[(5, 10)]);
+    trial.clocks(2);
+    assert_eq!((trial.line(), trial.adjusting()), (1, true));
+    trial.set(5, 0);
+    trial.clocks(30);
+    assert_eq!((trial.line(), trial.adjusting()), (31, true));
+    trial.clocks(1);
+    assert_eq!((trial.field(), trial.adjusting()), (1, false));
+}
+
+#[test]
+fn the_field_counts_frames_in_five_bits() {
+    let mut trial = Trial::fresh();
+    assert_eq!(trial.field(), 0);
+    trial.clocks(31);
+    assert_eq!(trial.field(), 31);
+    trial.clocks(1);
+    assert_eq!(trial.field(), 0);
+}
+
+#[test]
+fn the_start_is_sampled_by_reset_and_by_each_new_frame_only() {
+    let mut trial = Trial::with(&[(0, 3), (4, 1), (12, 0x12), (13, 0x34)]);
+    assert_eq!(trial.now().ma, 0x1234);
+    trial.set_all(&[(12, 0x21), (13, 0x43)]);
+    assert_eq!(trial.now().ma, 0x1234);
+    assert_eq!(trial.clocks(7).ma, 0x1237);
+    assert_eq!(trial.clocks(1).ma, 0x2143);
+}
+
+#[test]
+fn the_address_wraps_at_16384_along_the_line_and_from_row_to_row() {
+    let mut trial = Trial::with(&[(0, 3), (1, 2), (4, 3), (12, 0x3F), (13, 0xFF)]);
+    assert_eq!(trial.now().ma, 16383);
+    assert_eq!(trial.clocks(1).ma, 0);
+    assert_eq!(trial.clocks(1).ma, 1);
+    assert_eq!(trial.clocks(2).ma, 1);
+    assert_eq!(trial.clocks(4).ma, 3);
+}
+
+#[test]
+fn row_column_addressing_adds_row_and_column_apart() {
+    let mut trial = Trial::with(&[(0, 3), (1, 9), (4, 3), (8, 4), (12, 0x3E), (13, 0xFE)]);
+    let expected = [
+        0x3EFE, 0x3EFF, 0x3E00, 0x3E01, 0x3FFE, 0x3FFF, 0x3F00, 0x3F01, 0x00FE, 0x00FF,
+    ];
+    for (time, address) in expected.iter().enumerate() {
+        assert_eq!(trial.now().ma, *address, "time {time}");
+        trial.clocks(1);
+    }
+}
+
+#[test]
+fn row_column_addressing_uses_the_sampled_start_and_r8_as_it_stands() {
+    let mut trial = Trial::with(&[(0, 3), (1, 9), (4, 3), (12, 0x10), (13, 0x20)]);
+    trial.clocks(5);
+    trial.set_all(&[(12, 0x3F), (13, 0xF0)]);
+    assert_eq!(trial.now().ma, 0x102A);
+    trial.set(8, 0b100);
+    assert_eq!(trial.now().ma, 0x1121);
+    trial.set(8, 0b1111_1011);
+    assert_eq!(trial.now().ma, 0x102A);
+}
+
+#[test]
+fn the_picture_is_bounded_by_r6_and_r1() {
+    let mut trial = Trial::with(&[(0, 4), (1, 3), (4, 4), (6, 2)]);
+    for row in 0..5 {
+        for column in 0..5 {
+            assert_eq!(
+                trial.now().shows(PICTURE),
+                row < 2 && column < 3,
+                "{row},{column}"
+            );
+            trial.clocks(1);
+        }
+    }
+}
+
+#[test]
+fn a_wrapped_row_in_the_adjust_lines_is_not_in_the_picture() {
+    let mut trial = Trial::with(&[(1, 1), (4, 127), (5, 1), (6, 127)]);
+    trial.clocks(128);
+    assert_eq!((trial.row(), trial.adjusting()), (0, true));
+    assert!(!trial.now().shows(PICTURE));
+    assert_eq!(trial.strike().1, 0);
+    trial.clocks(1);
+    assert!(trial.now().shows(PICTURE));
+}
