@@ -1,0 +1,4 @@
+pub mod Walking
+pub mod Columns
+pub mod Lines
+pub mod Reaching

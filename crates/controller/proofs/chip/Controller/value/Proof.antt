@@ -1,0 +1,51 @@
+use Rattle.controller.specs.Reads.{valueOf}
+use Rattle.basics.proofs.Cases.{cases}
+use borrow.Author.Needs.{needs}
+use Rattle.controller.proofs.chip.Controller.value.Statement.{statement}
+use Rattle.controller.proofs.chip.Controller.value.Tie as tie
+
+element-copy-out-result : tie.Need-element-copy-out-result
+element-copy-out-result c = search needs
+
+returns : tie.Need-returns
+unfolding valueOf
+returns c = search cases depth 9
+
+element-copy-out-result-2 : tie.Need-element-copy-out-result-2
+element-copy-out-result-2 c = search needs
+
+returns-2 : tie.Need-returns-2
+unfolding valueOf
+returns-2 c = search cases depth 9
+
+high-requires : tie.Need-high-requires
+high-requires c κs = search needs
+
+returns-3 : tie.Need-returns-3
+unfolding valueOf
+returns-3 c = search cases depth 9
+
+low-requires : tie.Need-low-requires
+low-requires c κs = search needs
+
+returns-4 : tie.Need-returns-4
+unfolding valueOf
+returns-4 c = search cases depth 9
+
+returns-5 : tie.Need-returns-5
+unfolding valueOf
+returns-5 c = search cases depth 9
+
+pub value-spec : {M : Type 1} → statement M
+value-spec =
+    tie.close
+    (tie.spec
+    element-copy-out-result
+    returns
+    element-copy-out-result-2
+    returns-2
+    high-requires
+    returns-3
+    low-requires
+    returns-4
+    returns-5)

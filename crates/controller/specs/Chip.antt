@@ -1,0 +1,92 @@
+-- The controller as a whole: power-on, reset, write, character times and pen strikes (document 01, "Controller registers" and
+-- "One character time").
+use Prim.Native.Nat.{ℕ}
+use mathlib.Core.Bool.{Bool, true, false}
+use lib.ListN.{replicate}
+use Rattle.basics.specs.Iterate.{iterate}
+use Rattle.raster.specs.Scan.{topOf, nextOf}
+use Rattle.raster.specs.Sync.{arriveOf}
+use Rattle.facts.specs.Facts.{pictureOf, latchOf, factsOf}
+use Rattle.raster.specs.declared.registers.Registers.{Registers}
+use Rattle.facts.specs.declared.facts.Facts.{Facts}
+use Rattle.raster.specs.declared.sync.Sync.{Sync}
+use Rattle.clocks.specs.declared.place.Place.{Place}
+use Rattle.clocks.specs.declared.place.Walk.{Walk}
+use Rattle.controller.specs.Writes.{writtenOf}
+use Rattle.controller.specs.declared.pen.Pen.{Pen}
+use Rattle.controller.specs.declared.chip.Controller.{Controller}
+
+-- no strike yet, no fact left behind, no sync running
+abbrev pub noPen : Pen
+noPen = record { latch = 0; inside = false; struck = false; full = false }
+
+abbrev pub noFacts : Facts
+noFacts = record { picture = false; cursor = false }
+
+abbrev pub noSync : Sync
+noSync = record { hsync = 0; vsync = 0 }
+
+abbrev pub noRegisters : Registers
+noRegisters = record { held = replicate 16 0; named = 0 }
+
+-- what a reset makes of the registers that it keeps: the top of field 0, arrived at, and all else fresh.
+-- Decision: the sampled start is also the base, as in every new frame; without that the first picture would begin at address 0.
+unfoldable pub arrivedOf : Registers → Controller
+arrivedOf r = record {
+  regs = r;
+  scan = topOf r 0;
+  sync = arriveOf r (topOf r 0) noSync;
+  left = noFacts;
+  pen = noPen;
+}
+
+-- power-on: all registers zero, and arrived the same way
+unfoldable pub freshOf : Controller
+freshOf = arrivedOf noRegisters
+
+-- reset: the registers and the address register stay
+unfoldable pub resetOf : Controller → Controller
+resetOf c = arrivedOf (c .regs)
+
+-- a write changes registers and nothing else
+unfoldable pub writeOf : Controller → Bool → ℕ → Controller
+writeOf c rs v = record { regs = writtenOf (c .regs) rs v; scan = c .scan; sync = c .sync; left = c .left; pen = c .pen }
+
+-- one character time: the facts of the character being left are kept as the registers judge them now, then the scan moves on and
+-- arrives
+unfoldable pub stepOf : Controller → Controller
+stepOf c = record {
+  regs = c .regs;
+  scan = nextOf (c .regs) (c .scan);
+  sync = arriveOf (c .regs) (nextOf (c .regs) (c .scan)) (c .sync);
+  left = factsOf (c .regs) (c .scan);
+  pen = c .pen;
+}
+
+-- n character times. Decision: none at all are allowed and change nothing.
+unfoldable pub clockOf : ℕ → Controller → Controller
+clockOf n c = iterate stepOf n c
+
+-- a strike latches the pen's address and whether this character is in the picture (the fact, not the pin), and sets L; an earlier
+-- strike is forgotten
+unfoldable pub strikeOf : Controller → Controller
+strikeOf c = record {
+  regs = c .regs;
+  scan = c .scan;
+  sync = c .sync;
+  left = c .left;
+  pen = record { latch = latchOf (c .regs) (c .scan); inside = pictureOf (c .regs) (c .scan); struck = true; full = true };
+}
+
+-- the part of the controller that walks, and the controller after a walk
+abbrev pub placeOf : Controller → Place
+placeOf c = record { scan = c .scan; sync = c .sync }
+
+unfoldable pub walkedOf : Controller → Walk → Controller
+walkedOf c w = record {
+  regs = c .regs;
+  scan = w .place .scan;
+  sync = w .place .sync;
+  left = factsOf (c .regs) (w .from);
+  pen = c .pen;
+}

@@ -1,0 +1,54 @@
+-- Register reads (document 01, "Controller registers"; kind 2 of the table of kinds).
+use Prim.Native.Nat.{ℕ, _+_, _*_}
+use mathlib.Core.Bool.{Bool, true, false, not, _||_}
+use lib.Dec.{eqb, leb}
+use Rattle.basics.specs.Choice.{if_then_else_}
+use Rattle.basics.specs.Bits.{num, highOf, lowOf}
+use Rattle.raster.specs.Registers.{reg}
+use Rattle.controller.specs.declared.chip.Controller.{Controller}
+use Rattle.controller.specs.declared.reads.Reading.{Reading}
+
+-- V: the adjust lines run, or the row is R6 or past it
+unfoldable pub blankOf : Controller → Bool
+blankOf c = c .scan .adjusting || leb (reg (c .regs) 6) (c .scan .row)
+
+-- status: L in bit 6, V in bit 5, all others 0
+unfoldable pub statusOf : Controller → ℕ
+statusOf c = num (c .pen .full) * 64 + num (blankOf c) * 32
+
+-- what a read of register k brings: R14 and R15 as held, R16 and R17 the latch's high and low byte, all others 0
+unfoldable pub valueOf : Controller → ℕ → ℕ
+valueOf c k =
+    if eqb k 14 then reg (c .regs) 14 else (if eqb k 15 then reg (c .regs) 15
+    else (if eqb k 16 then highOf (c .pen .latch) else (if eqb k 17 then lowOf (c .pen .latch) else 0)))
+
+-- register 31 alone is not driven
+abbrev pub drivenOf : ℕ → Bool
+drivenOf k = not (eqb k 31)
+
+-- L is cleared, the latch stays
+unfoldable pub emptiedOf : Controller → Controller
+emptiedOf c = record {
+  regs = c .regs;
+  scan = c .scan;
+  sync = c .sync;
+  left = c .left;
+  pen = record { latch = c .pen .latch; inside = c .pen .inside; struck = c .pen .struck; full = false };
+}
+
+-- reading R16 or R17 clears L
+unfoldable pub afterReadOf : Controller → ℕ → Controller
+afterReadOf c k = if eqb k 16 || eqb k 17 then emptiedOf c else c
+
+-- RS 1 reads the named register. Decision: the answer is what stood there before the read cleared L.
+unfoldable pub registerReadOf : Controller → Reading
+registerReadOf c =
+    record { driven = drivenOf (c .regs .named); value = valueOf c (c .regs .named); controller = afterReadOf c (c .regs .named) }
+
+-- RS 0 reads status, always driven, and changes nothing
+unfoldable pub statusReadOf : Controller → Reading
+statusReadOf c = record { driven = true; value = statusOf c; controller = c }
+
+-- a read, by RS
+unfoldable pub readOf : Controller → Bool → Reading
+readOf c rs = if rs then registerReadOf c else statusReadOf c
