@@ -1,0 +1,7 @@
+-- Fetches in a run. Until B0..B3 stand at 15 a fetch adds one to the address and does nothing else, so k of them add k.
+use Prim.Native.Nat.{ℕ, _+_, _%_, _≤_}
+
+-- k fetches from address b on, of those that are left: none of them is made at 15, where B3 would fall
+pub record Run (b left k : ℕ) : Type 0 where
+  pub within : k ≤ left
+  pub low : b % 16 + k ≤ 15

@@ -1,0 +1,5 @@
+pub mod Cells
+pub mod Bus
+pub mod Edge
+pub mod Refresh
+pub mod Chip
