@@ -1,0 +1,57 @@
+-- The table of settled cases, computed row by row. Assumes nothing.
+use Prim.Native.Nat.{ℕ}
+use mathlib.Core.Path.{_≡_, refl, ap₂}
+use mathlib.Core.List.{List, [], _∷_, map}
+use lib.ListN.{getD}
+use Rattle.basics.specs.Choice.{if_then_else_}
+use Rattle.basics.specs.Iterate.{iterate}
+use Rattle.raster.specs.Scan.{lineEndOf, moveOf, movedOf, nextOf}
+use Rattle.raster.specs.Sync.{hsyncOf, vsyncStartsOf, vsyncWidthOf, vsyncOf, arriveOf}
+use Rattle.facts.specs.Facts.{pictureOf, addressOf, maOf, latchOf, blinkOf, cursorLineOf, cursorOf, factsOf}
+use Rattle.controller.specs.Chip.{arrivedOf, stepOf, clockOf, strikeOf}
+use Rattle.controller.specs.Pins.{pinOf, outputsOf}
+use Rattle.locator.specs.Cells.{count, cellsFrom, cellAddressOf, cellLatchOf, fitsOf, keep, theFit, fitOf}
+use Rattle.locator.specs.Locate.{namedOf, locateOf}
+use Rattle.cases.specs.Cases.{setting, A, tall, Case, reached, looked, seen, waits, strikes, cases, settled, Settled}
+
+infixr 20 _then_
+_then_ : {x y : List ℕ} {xs ys : List (List ℕ)} → x ≡ y → xs ≡ ys → x ∷ xs ≡ y ∷ ys
+_then_ p q = ap₂ (λ (a : List ℕ) (l : List (List ℕ)). a ∷ l) p q
+
+-- one row of the table, its case against what was settled. Each is shown by itself: h, i and j go over 16,000 cells each.
+abbrev Row : ℕ → Type 0
+Row k = seen (getD cases k (waits A 0)) ≡ getD settled k []
+
+pub table : Settled
+unfolding if_then_else_ iterate lineEndOf moveOf movedOf nextOf hsyncOf vsyncStartsOf vsyncWidthOf vsyncOf arriveOf pictureOf addressOf maOf latchOf blinkOf cursorLineOf cursorOf factsOf arrivedOf stepOf clockOf strikeOf pinOf outputsOf count cellsFrom cellAddressOf cellLatchOf fitsOf keep theFit fitOf namedOf locateOf setting A tall reached looked seen cases settled
+table = a then b then c then d then e then f then g then h then i then j then refl
+  where
+    a : Row 0
+    a = refl
+
+    b : Row 1
+    b = refl
+
+    c : Row 2
+    c = refl
+
+    d : Row 3
+    d = refl
+
+    e : Row 4
+    e = refl
+
+    f : Row 5
+    f = refl
+
+    g : Row 6
+    g = refl
+
+    h : Row 7
+    h = refl
+
+    i : Row 8
+    i = refl
+
+    j : Row 9
+    j = refl

@@ -1,0 +1,148 @@
+-- Demand 3, proved. Assumes nothing.
+use Prim.Native.Nat.{ℕ, zero, suc, _<_}
+use mathlib.Core.Path.{_≡_, refl, ap, ap₂, sym, _∙_}
+use mathlib.Core.Bool.{Bool, true, false, not, _&&_, and-eq-true-iff}
+use mathlib.Core.List.{List, [], _∷_, _++_, map}
+use mathlib.Core.Logic.{_⊎_, inl, inr, ⊎-elim}
+use native.Mathlib.Omega.{arith}
+use lib.Dec.{eqb, ltb}
+use borrow.Author.Tests.{eqb-true, eqb-false, eq-eqb, ltb-true, not-true}
+use Rattle.basics.specs.Choice.{if_then_else_}
+use Rattle.basics.specs.Iterate.{iterate}
+use Rattle.raster.specs.Registers.{reg, startOf, byRowsOf}
+use Rattle.raster.specs.declared.registers.Registers.{Registers}
+use Rattle.raster.specs.declared.scan.Scan.{Scan}
+use Rattle.facts.specs.Facts.{pictureOf, addressOf, maOf, latchOf}
+use Rattle.controller.specs.Chip.{arrivedOf, freshOf, resetOf, stepOf, clockOf, strikeOf}
+use Rattle.controller.specs.Calls.{Call, afterCalls, Act, clocks, strikes, afterAct, afterActs}
+use Rattle.controller.specs.Widths.{RegistersFit}
+use Rattle.controller.specs.Frames.{Region, Placed, Frames}
+use Rattle.controller.specs.declared.pen.Pen.{Pen}
+use Rattle.controller.specs.declared.chip.Controller.{Controller}
+use Rattle.frames.proofs.Frames.{frames}
+use Rattle.frames.proofs.Widths.{reached-fits}
+use Rattle.locator.specs.Cells.{IsCell, cellAt, rowBaseOf, cellAddressOf, cellLatchOf, fitsOf, fitOf}
+use Rattle.locator.specs.Locate.{namedOf, locateOf}
+use Rattle.locator.specs.Demand.{struckAt, answerTo, Rival, Demand3}
+use Rattle.locator.specs.declared.cells.Cell.{Cell}
+use Rattle.locator.specs.declared.answer.Located.{Located}
+use Rattle.locator.specs.declared.answer.Located.the-variants.{At, Unstruck, Outside, Several}
+use Rattle.demand.proofs.Listed.{found, several}
+
+-- a strike in the picture latches what a strike in the cell of its row and column would
+picture-cell : (r : Registers) (s : Scan) → Placed r s → pictureOf r s ≡ true
+    → IsCell r (cellAt (s .row) (s .column)) × (cellLatchOf r (cellAt (s .row) (s .column)) ≡ latchOf r s)
+unfolding pictureOf maOf latchOf cellAddressOf cellLatchOf
+picture-cell r s p e =
+    let a = and-eq-true-iff (not (s .adjusting) && ltb (s .row) (reg r 6)) (ltb (s .column) (reg r 1)) .0 e in
+    let b = and-eq-true-iff (not (s .adjusting)) (ltb (s .row) (reg r 6)) .0 (a .0) in
+    let q : Region r (s .line) (s .row) (s .base) false = rw (not-true (s .adjusting) (b .0)) at (p .region) in (
+      record { row< = ltb-true (s .row) (reg r 6) (b .1); row≤ = q .1; column< = ltb-true (s .column) (reg r 1) (a .1); column≤ = p .column },
+      rw (p .start, q .2),
+    )
+
+-- two cells are the same, or they are not
+same-or-other : (c d : Cell) → (c ≡ d) ⊎ (c ≡ d → ⊥)
+same-or-other c d = go (eqb (c .row) (d .row)) refl (eqb (c .column) (d .column)) refl
+  where
+    go : (a : Bool) → eqb (c .row) (d .row) ≡ a → (b : Bool) → eqb (c .column) (d .column) ≡ b → (c ≡ d) ⊎ (c ≡ d → ⊥)
+    go true p true q = inl (ap₂ cellAt (eqb-true _ _ p) (eqb-true _ _ q))
+    go true p false q = inr (λ e. eqb-false _ _ q (ap (λ (x : Cell). x .column) e))
+    go false p b q = inr (λ e. eqb-false _ _ p (ap (λ (x : Cell). x .row) e))
+
+-- clocks leave registers and pen, and so what the locator says
+clock-keeps : (n : ℕ) (c : Controller) → (clockOf n c .regs ≡ c .regs) × (clockOf n c .pen ≡ c .pen)
+unfolding clockOf iterate stepOf
+clock-keeps zero c = (refl, refl)
+clock-keeps (suc n) c = clock-keeps n c
+
+clocks-keep : (l : List ℕ) (c : Controller) → (afterActs (map clocks l) c .regs ≡ c .regs) × (afterActs (map clocks l) c .pen ≡ c .pen)
+unfolding afterActs afterAct
+clocks-keep [] c = (refl, refl)
+clocks-keep (n ∷ l) c =
+    let p = clocks-keep l (clockOf n c) in
+    let q = clock-keeps n c in
+    (p .0 ∙ q .0, p .1 ∙ q .1)
+
+acts-append : (l m : List Act) (c : Controller) → afterActs (l ++ m) c ≡ afterActs m (afterActs l c)
+unfolding afterActs
+acts-append [] m c = refl
+acts-append (a ∷ l) m c = acts-append l m (afterAct a c)
+
+-- what the locator says goes by registers and pen alone
+saidOf : Registers → Pen → Located
+saidOf r p = if p .struck then (if p .inside then namedOf (fitOf r (p .latch)) else Outside) else Unstruck
+
+said : (c : Controller) → locateOf c ≡ saidOf (c .regs) (c .pen)
+unfolding locateOf saidOf
+said c = refl
+
+after-clocks : (more : List ℕ) (c : Controller) → locateOf (afterActs (map clocks more) c) ≡ locateOf c
+after-clocks more c =
+    let k = clocks-keep more c in
+    said (afterActs (map clocks more) c) ∙ ap₂ saidOf (k .0) (k .1) ∙ sym (said c)
+
+-- a list of clocks and strikes has no strike, or a last one
+split-last : (l : List Act)
+    → ((more : List ℕ) × (l ≡ map clocks more)) ⊎ ((before : List Act) × (more : List ℕ) × (l ≡ before ++ strikes ∷ map clocks more))
+split-last [] = inl ([], refl)
+split-last (clocks n ∷ l) =
+    ⊎-elim (λ q. inl (n ∷ q .0, ap (λ (k : List Act). clocks n ∷ k) (q .1))) (λ q. inr (clocks n ∷ q .0, q .1, ap (λ (k : List Act). clocks n ∷ k) (q .2)))
+    (split-last l)
+split-last (strikes ∷ l) =
+    ⊎-elim (λ q. inr ([], q .0, ap (λ (k : List Act). strikes ∷ k) (q .1))) (λ q. inr (strikes ∷ q .0, q .1, ap (λ (k : List Act). strikes ∷ k) (q .2)))
+    (split-last l)
+
+module _ (c : Controller) (w : RegistersFit (c .regs)) where
+  abbrev r : Registers
+  r = c .regs
+
+  narrow : reg r 0 < 256
+  narrow = w .each 0 (omega arith)
+
+  -- the answer for a last strike, by its place
+  struck : (before : List Act) (more : List ℕ)
+      → answerTo c before more
+      ≡ (if pictureOf r (struckAt c before) then namedOf (fitOf r (latchOf r (struckAt c before))) else Outside)
+  unfolding if_then_else_ afterActs afterAct strikeOf locateOf
+  struck before more =
+      let b = afterActs before (resetOf c) in
+      let f = frames c w in
+      ap locateOf (acts-append before (strikes ∷ map clocks more) (resetOf c))
+      ∙ after-clocks more (strikeOf b)
+      ∙ ap (λ (q : Registers). if pictureOf q (b .scan) then namedOf (fitOf q (latchOf q (b .scan))) else Outside) (f .registers before)
+
+  in-picture : (before : List Act) (more : List ℕ) → pictureOf r (struckAt c before) ≡ true
+      → answerTo c before more ≡ namedOf (fitOf r (latchOf r (struckAt c before)))
+  unfolding if_then_else_
+  in-picture before more e = struck before more ∙ rw e
+
+  pub demand3 : Demand3 c
+  unfolding if_then_else_ fitOf fitsOf namedOf locateOf resetOf arrivedOf
+  demand3 = record {
+    frames = frames c w;
+    last-strike = split-last;
+    unstruck = λ more. after-clocks more (resetOf c);
+    named = λ before more e u.
+        let s = struckAt c before in
+        let p = picture-cell r s (frames c w .placed before) e in
+        in-picture before more e
+        ∙ ap namedOf
+        (found r narrow (fitsOf r (latchOf r s)) (cellAt (s .row) (s .column)) (p .0) (eq-eqb _ _ (p .1))
+        (λ d j k.
+        ⊎-elim (λ (q : d ≡ cellAt (s .row) (s .column)). q)
+        (λ n. absurd (u d (record { cell = j; latch = eqb-true (cellLatchOf r d) (latchOf r s) k; other = n })))
+        (same-or-other d (cellAt (s .row) (s .column)))));
+    shared = λ before more e d v.
+        let s = struckAt c before in
+        let p = picture-cell r s (frames c w .placed before) e in
+        in-picture before more e
+        ∙ ap namedOf
+        (several r narrow (fitsOf r (latchOf r s)) (cellAt (s .row) (s .column)) (p .0) (eq-eqb _ _ (p .1))
+        d (v .cell) (eq-eqb _ _ (v .latch)) (v .other));
+    outside = λ before more e. struck before more ∙ rw e;
+  }
+
+-- so it holds of every controller that calls can reach from power-on, whatever was written to its registers
+pub demand3-reached : (l : List Call) → Demand3 (afterCalls l freshOf)
+demand3-reached l = demand3 (afterCalls l freshOf) (reached-fits l .regs)

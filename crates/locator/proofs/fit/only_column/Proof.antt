@@ -1,0 +1,48 @@
+use Prim.Native.Nat.{ℕ}
+use mathlib.Core.Path.{ap, sym, _∙_}
+use borrow.Author.Needs.{needs}
+use Rattle.locator.specs.Cells.{fromBaseOf, fromLowOf}
+use Rattle.locator.proofs.Fits.{by-base, by-low}
+use Rattle.locator.proofs.fit.only_column.Statement.{statement}
+use Rattle.locator.proofs.fit.only_column.Tie as tie
+
+by-rows-requires : tie.Need-by-rows-requires
+by-rows-requires c κs = search needs
+
+start-requires : tie.Need-start-requires
+start-requires c κs = search needs
+
+from-low-requires : tie.Need-from-low-requires
+from-low-requires c κs = search needs
+
+returns : tie.Need-returns
+returns c x h e =
+    let a = c .before .before .before .before .args in
+    let b = c .before .before .before .by-rows in
+    by-low (a .r) (a .row) x (a .latch) h e (sym (b .ensures) ∙ c .before .before .if1 .taken)
+    ∙ sym (rw (c .before .start .ensures) at (c .from-low .ensures))
+
+row-base-requires : tie.Need-row-base-requires
+row-base-requires c κs = search needs
+
+from-base-requires : tie.Need-from-base-requires
+from-base-requires c κs = search needs
+
+returns-2 : tie.Need-returns-2
+returns-2 c x h e =
+    let a = c .before .before .before .before .args in
+    let b = c .before .before .before .by-rows in
+    by-base (a .r) (a .row) x (a .latch) h e (sym (b .ensures) ∙ c .before .before .if1 .left)
+    ∙ sym (rw (c .before .row-base .ensures) at (c .from-base .ensures))
+
+pub only-column-spec : {M : Type 1} → statement M
+only-column-spec =
+    tie.close
+    (tie.spec
+    by-rows-requires
+    start-requires
+    from-low-requires
+    returns
+    row-base-requires
+    from-base-requires
+    returns-2)

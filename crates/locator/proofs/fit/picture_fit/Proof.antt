@@ -1,0 +1,68 @@
+-- The loop's invariant: the fit of the rows met so far. The measure is how many are left.
+use Prim.Native.Nat.{ℕ, _≤_, _-_}
+use mathlib.Core.Path.{_≡_, refl, ap, ap₂, sym, _∙_}
+use native.Mathlib.Omega.{arith}
+use borrow.Author.Needs.{needs}
+use Rattle.locator.specs.Cells.{rowsOf, cellsFrom, fitsOf, keep, theFit, joinedOf, rowFitOf, fitOf}
+use Rattle.locator.proofs.Fits.{rows-more}
+use Rattle.locator.proofs.fit.picture_fit.Statement.{statement}
+use Rattle.locator.proofs.fit.picture_fit.Tie as tie
+
+abbrev Inv-loop : tie.InvT-loop
+Inv-loop r latch n best₀ k₀ best k = (k ≤ n) × (best ≡ theFit (keep (fitsOf r latch) (cellsFrom r 0 k)))
+
+abbrev μ-loop : tie.MeasureT-loop
+μ-loop r latch n best₀ k₀ best k = n - k
+
+rows-requires : tie.Need-rows-requires Inv-loop μ-loop
+rows-requires c κs = search needs
+
+loop-holds : tie.Need-loop-holds Inv-loop μ-loop
+unfolding theFit keep cellsFrom
+loop-holds c = (omega arith, refl)
+
+row-fit-requires : tie.Need-row-fit-requires Inv-loop μ-loop
+row-fit-requires c κs = search needs
+
+join-requires : tie.Need-join-requires Inv-loop μ-loop
+join-requires c κs = search needs
+
+add-k : tie.Need-add-k Inv-loop μ-loop
+add-k c = omega arith
+
+loop-less : tie.Need-loop-less Inv-loop μ-loop
+loop-less c = omega arith
+
+loop-again : tie.Need-loop-again Inv-loop μ-loop
+unfolding rowFitOf
+loop-again c =
+    let a = c .before .before .before .before .before .args in
+    let l = c .before .before .before .loop in (
+      omega arith,
+      c .join .ensures
+          ∙ ap₂ joinedOf (l .inv .1) (c .before .row-fit .ensures)
+          ∙ sym (rows-more (fitsOf (a .r) (a .latch)) (a .r) (l .k)),
+    )
+
+returns : tie.Need-returns Inv-loop μ-loop
+unfolding fitOf
+returns c =
+    let a = c .before .before .before .args in
+    let l = c .before .loop in
+    let e : l .k ≡ rowsOf (a .r) = omega arith in
+    l .inv .1 ∙ ap (λ (x : ℕ). theFit (keep (fitsOf (a .r) (a .latch)) (cellsFrom (a .r) 0 x))) e
+
+pub picture-fit-spec : {M : Type 1} → statement M
+picture-fit-spec =
+    tie.close
+    (tie.spec
+    Inv-loop
+    μ-loop
+    rows-requires
+    loop-holds
+    row-fit-requires
+    join-requires
+    add-k
+    loop-less
+    loop-again
+    returns)

@@ -1,0 +1,95 @@
+-- The picture's cells, and which of them a latch fits (document 01, "The locator"). Cells are a list, row by row; nothing here searches.
+use Prim.Native.Nat.{ℕ, zero, suc, _+_, _*_, _-_, _%_, _<_, _≤_, min}
+use mathlib.Core.Bool.{Bool, true, false}
+use mathlib.Core.List.{List, [], _∷_, _++_, map}
+use lib.Dec.{eqb}
+use Rattle.basics.specs.Choice.{if_then_else_}
+use Rattle.raster.specs.Registers.{reg, startOf}
+use Rattle.raster.specs.declared.registers.Registers.{Registers}
+use Rattle.facts.specs.Facts.{addressOf}
+use Rattle.locator.specs.declared.cells.Cell.{Cell}
+use Rattle.locator.specs.declared.fit.Fit.{Fit}
+use Rattle.locator.specs.declared.fit.Fit.the-variants.{Free, One, Many}
+
+-- a cell of the picture: its row below R6 and at most R4, its column below R1 and at most R0
+pub record IsCell (r : Registers) (c : Cell) : Type 0 where
+  pub row< : c .row < reg r 6
+  pub row≤ : c .row ≤ reg r 4
+  pub column< : c .column < reg r 1
+  pub column≤ : c .column ≤ reg r 0
+
+-- so there are this many columns, and this many rows
+abbrev pub columnsOf : Registers → ℕ
+columnsOf r = min (reg r 1) (reg r 0 + 1)
+
+abbrev pub rowsOf : Registers → ℕ
+rowsOf r = min (reg r 6) (reg r 4 + 1)
+
+-- n numbers from a on
+unfoldable pub count : ℕ → ℕ → List ℕ
+count a zero = []
+count a (suc n) = a ∷ count (suc a) n
+
+abbrev pub cellAt : ℕ → ℕ → Cell
+cellAt row column = record { row = row; column = column }
+
+-- the cells of one row, of n rows from a row on, and of the whole picture
+abbrev pub rowCells : Registers → ℕ → List Cell
+rowCells r row = map (cellAt row) (count 0 (columnsOf r))
+
+unfoldable pub cellsFrom : Registers → ℕ → ℕ → List Cell
+cellsFrom r row zero = []
+cellsFrom r row (suc n) = rowCells r row ++ cellsFrom r (suc row) n
+
+abbrev pub cellsOf : Registers → List Cell
+cellsOf r = cellsFrom r 0 (rowsOf r)
+
+-- the address that a row begins with: the start, and R1 for each row above it
+abbrev pub rowBaseOf : Registers → ℕ → ℕ
+rowBaseOf r row = (startOf r + row * reg r 1) % 16384
+
+-- a cell's address, by the registers as they stand and not as the frame sampled them
+unfoldable pub cellAddressOf : Registers → Cell → ℕ
+cellAddressOf r c = addressOf r (startOf r) (rowBaseOf r (c .row)) (c .row) (c .column)
+
+-- the latch that a strike in the cell leaves
+unfoldable pub cellLatchOf : Registers → Cell → ℕ
+cellLatchOf r c = (cellAddressOf r c + 2) % 16384
+
+-- a cell fits a latch when a strike in it would leave that latch
+unfoldable pub fitsOf : Registers → ℕ → Cell → Bool
+fitsOf r latch c = eqb (cellLatchOf r c) latch
+
+-- the elements of a list that pass a test
+unfoldable pub keep : {A : Type 0} → (A → Bool) → List A → List A
+keep f [] = []
+keep f (a ∷ l) = if f a then a ∷ keep f l else keep f l
+
+-- of a list of cells: none, just one, or more
+unfoldable pub theFit : List Cell → Fit
+theFit [] = Free
+theFit (c ∷ []) = One c
+theFit (c ∷ d ∷ l) = Many
+
+-- of two lists one after the other, by the answers for each
+unfoldable pub joinedOf : Fit → Fit → Fit
+joinedOf Free b = b
+joinedOf (One c) Free = One c
+joinedOf (One c) (One d) = Many
+joinedOf (One c) Many = Many
+joinedOf Many b = Many
+
+-- which of the picture's cells fit a latch
+unfoldable pub fitOf : Registers → ℕ → Fit
+fitOf r latch = theFit (keep (fitsOf r latch) (cellsOf r))
+
+-- which of a row's cells do
+unfoldable pub rowFitOf : Registers → ℕ → ℕ → Fit
+rowFitOf r latch row = theFit (keep (fitsOf r latch) (rowCells r row))
+
+-- the column at which a row reaches a latch: by counting on from its base, and where the column moves the low byte alone
+abbrev pub fromBaseOf : ℕ → ℕ → ℕ
+fromBaseOf base latch = (latch + 32766 - base % 16384) % 16384
+
+abbrev pub fromLowOf : ℕ → ℕ → ℕ
+fromLowOf start latch = (latch + 510 - start % 256) % 256

@@ -1,0 +1,39 @@
+-- The locator's answer (document 01, "The locator" and the table of refusals).
+use Prim.Native.Nat.{ℕ}
+use mathlib.Core.Bool.{Bool}
+use Rattle.basics.specs.Choice.{if_then_else_}
+use Rattle.controller.specs.declared.chip.Controller.{Controller}
+use Rattle.locator.specs.Cells.{cellAt, fitOf}
+use Rattle.locator.specs.declared.cells.Cell.{Cell}
+use Rattle.locator.specs.declared.fit.Fit.{Fit}
+use Rattle.locator.specs.declared.fit.Fit.the-variants.{Free, One, Many}
+use Rattle.locator.specs.declared.answer.Located.{Located}
+use Rattle.locator.specs.declared.answer.Located.the-variants.{At, Unstruck, Outside, Nowhere, Several}
+
+-- the number of each answer in the table of refusals: 0 done, 5 no strike since the reset, 6 the strike was outside the picture,
+-- 7 no cell fits, 8 two or more fit
+abbrev pub refusalOf : Located → ℕ
+refusalOf (At c) = 0
+refusalOf Unstruck = 5
+refusalOf Outside = 6
+refusalOf Nowhere = 7
+refusalOf Several = 8
+
+-- the cell that an answer names; row and column 0 where it names none
+abbrev pub cellOf : Located → Cell
+cellOf (At c) = c
+cellOf Unstruck = cellAt 0 0
+cellOf Outside = cellAt 0 0
+cellOf Nowhere = cellAt 0 0
+cellOf Several = cellAt 0 0
+
+-- the answer by the cells that fit
+unfoldable pub namedOf : Fit → Located
+namedOf Free = Nowhere
+namedOf (One c) = At c
+namedOf Many = Several
+
+-- where the last strike was: refused in the order 5, 6, 7, 8, or its cell
+unfoldable pub locateOf : Controller → Located
+locateOf c =
+    if c .pen .struck then (if c .pen .inside then namedOf (fitOf (c .regs) (c .pen .latch)) else Outside) else Unstruck

@@ -1,0 +1,102 @@
+// Which cells fit a latch. A row has at most one, since its columns are fewer than the addresses they run through: so that one column
+// is computed, and the rows are gone over once.
+ghost use mathlib.Core.Path.{_≡_};
+ghost use mathlib.Core.List.{_∷_, []};
+ghost use Prim.Native.Nat.{ℕ, _<_};
+ghost use Rattle.locator.specs.Cells.{cellAt, cellLatchOf, fitsOf, keep, theFit, joinedOf, rowFitOf, fitOf, fromBaseOf, fromLowOf};
+use crate::cells::Cell;
+use crate::cells::cell_latch;
+use crate::cells::columns;
+use crate::cells::row_base;
+use crate::cells::rows;
+use raster::Registers;
+
+// Of a list of cells: none, just one, or more.
+pub enum Fit {
+    Free,
+    One(Cell),
+    Many,
+}
+
+impl Fit {
+    // The answer for two lists one after the other.
+    pub(crate) fn join(self, b: Fit) -> Fit
+        ensures { λ q. ⌜ q ≡ joinedOf self b ⌝ }
+    {
+        let a = self;
+        match a {
+            Fit::Free => b,
+            Fit::One(c) => match b {
+                Fit::Free => Fit::One(c),
+                Fit::One(_) => Fit::Many,
+                Fit::Many => Fit::Many,
+            },
+            Fit::Many => Fit::Many,
+        }
+    }
+}
+
+fn cell_fit(r: Registers, latch: u16, c: Cell) -> Fit
+    ensures { λ q. ⌜ q ≡ theFit (keep (fitsOf r latch) (c ∷ [])) ⌝ }
+{
+    if cell_latch(r, c) == latch {
+        return Fit::One(c);
+    }
+    Fit::Free
+}
+
+// The column at which a row from that base on reaches a latch, over all addresses.
+fn from_base(base: u16, latch: u16) -> u16
+    ensures { λ q. ⌜ q ≡ fromBaseOf base latch ⌝ }
+{
+    (((latch as u32) + 32766 - (base as u32) % 16384) % 16384) as u16
+}
+
+// The same where the column moves the low byte alone.
+fn from_low(start: u16, latch: u16) -> u16
+    ensures { λ q. ⌜ q ≡ fromLowOf start latch ⌝ }
+{
+    (((latch as u32) + 510 - (start as u32) % 256) % 256) as u16
+}
+
+// The one column of a row whose cell can leave a latch: no other below 256 does.
+fn only_column(r: Registers, latch: u16, row: u8) -> u16
+    ensures { λ q. ⌜ ((x : ℕ) → x < 256 → cellLatchOf r (cellAt row x) ≡ latch → x ≡ q) ⌝ }
+{
+    if r.by_rows() {
+        return from_low(r.start(), latch);
+    }
+    from_base(row_base(r, row), latch)
+}
+
+// Which cells of a row fit.
+fn row_fit(r: Registers, latch: u16, row: u8) -> Fit
+    ensures { λ q. ⌜ q ≡ rowFitOf r latch row ⌝ }
+{
+    let k = only_column(r, latch, row);
+    if k < columns(r) as u16 {
+        return cell_fit(
+            r,
+            latch,
+            Cell {
+                row,
+                column: k as u8,
+            },
+        );
+    }
+    Fit::Free
+}
+
+// Which cells of the picture fit.
+pub(crate) fn picture_fit(r: Registers, latch: u16) -> Fit
+    ensures { λ q. ⌜ q ≡ fitOf r latch ⌝ }
+{
+    let n = rows(r);
+    let mut best = Fit::Free;
+    let mut k: u8 = 0;
+    while k < n {
+        best = best.join(row_fit(r, latch, k));
+        k += 1;
+    }
+    best
+}
