@@ -1,0 +1,14 @@
+use Rattle.bench.specs.Answers.{busAnswerOf}
+use borrow.Author.Needs.{needs}
+use Rattle.bench.proofs.answers.bus_answer.Statement.{statement}
+use Rattle.bench.proofs.answers.bus_answer.Tie as tie
+
+done-requires : tie.Need-done-requires
+done-requires c κs = search needs
+
+returns : tie.Need-returns
+unfolding busAnswerOf
+returns c = c .done .ensures
+
+pub bus-answer-spec : {M : Type 1} → statement M
+bus-answer-spec = tie.close (tie.spec done-requires returns)

@@ -1,0 +1,14 @@
+use Rattle.bench.specs.Answers.{levelsAnswerOf}
+use borrow.Author.Needs.{needs}
+use Rattle.bench.proofs.answers.levels_answer.Statement.{statement}
+use Rattle.bench.proofs.answers.levels_answer.Tie as tie
+
+done-requires : tie.Need-done-requires
+done-requires c κs = search needs
+
+returns : tie.Need-returns
+unfolding levelsAnswerOf
+returns c = c .done .ensures
+
+pub levels-answer-spec : {M : Type 1} → statement M
+levels-answer-spec = tie.close (tie.spec done-requires returns)

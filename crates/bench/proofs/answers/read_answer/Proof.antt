@@ -1,0 +1,17 @@
+use Rattle.bench.specs.Answers.{readAnswerOf}
+use borrow.Author.Needs.{needs}
+use Rattle.bench.proofs.answers.read_answer.Statement.{statement}
+use Rattle.bench.proofs.answers.read_answer.Tie as tie
+
+number-requires : tie.Need-number-requires
+number-requires c κs = search needs
+
+done-requires : tie.Need-done-requires
+done-requires c κs = search needs
+
+returns : tie.Need-returns
+unfolding readAnswerOf
+returns c = rw (c .before .number .ensures) at (c .done .ensures)
+
+pub read-answer-spec : {M : Type 1} → statement M
+read-answer-spec = tie.close (tie.spec number-requires done-requires returns)

@@ -1,0 +1,17 @@
+use Rattle.bench.specs.Answers.{shownAnswerOf}
+use borrow.Author.Needs.{needs}
+use Rattle.bench.proofs.answers.shown_answer.Statement.{statement}
+use Rattle.bench.proofs.answers.shown_answer.Tie as tie
+
+number-requires : tie.Need-number-requires
+number-requires c κs = search needs
+
+done-requires : tie.Need-done-requires
+done-requires c κs = search needs
+
+returns : tie.Need-returns
+unfolding shownAnswerOf
+returns c = rw (c .before .number .ensures) at (c .done .ensures)
+
+pub shown-answer-spec : {M : Type 1} → statement M
+shown-answer-spec = tie.close (tie.spec number-requires done-requires returns)

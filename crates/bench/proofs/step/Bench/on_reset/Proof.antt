@@ -1,0 +1,44 @@
+use Rattle.basics.proofs.Cases.{if-yes, if-no}
+use Rattle.bench.specs.Step.{onReset}
+use borrow.Author.Needs.{needs}
+use Rattle.bench.proofs.step.Bench.on_reset.Statement.{statement}
+use Rattle.bench.proofs.step.Bench.on_reset.Tie as tie
+
+reset-requires : tie.Need-reset-requires
+reset-requires c κs = search needs
+
+plain-requires : tie.Need-plain-requires
+plain-requires c κs = search needs
+
+with-multiplexer-requires : tie.Need-with-multiplexer-requires
+with-multiplexer-requires c κs = search needs
+
+returns : tie.Need-returns
+unfolding onReset
+returns c = if-yes _ _ _ _ (c .before .before .before .if1 .taken) (rw (c .before .plain .ensures, c .before .before .reset .ensures) at (c .with-multiplexer .ensures))
+
+reset-requires-2 : tie.Need-reset-requires-2
+reset-requires-2 c κs = search needs
+
+plain-requires-2 : tie.Need-plain-requires-2
+plain-requires-2 c κs = search needs
+
+with-controller-requires : tie.Need-with-controller-requires
+with-controller-requires c κs = search needs
+
+returns-2 : tie.Need-returns-2
+unfolding onReset
+returns-2 c = if-no _ _ _ _ (c .before .before .before .if1 .left) (rw (c .before .plain2 .ensures, c .before .before .reset2 .ensures) at (c .with-controller .ensures))
+
+pub on-reset-spec : {M : Type 1} → statement M
+on-reset-spec =
+    tie.close
+    (tie.spec
+    reset-requires
+    plain-requires
+    with-multiplexer-requires
+    returns
+    reset-requires-2
+    plain-requires-2
+    with-controller-requires
+    returns-2)

@@ -1,0 +1,4 @@
+pub mod Answers
+pub mod Step
+pub mod Alone
+pub mod Refusals

@@ -1,0 +1,129 @@
+-- Laws of runs: their counts, their endings, and runs one after the other. Assumes nothing.
+use Prim.Native.Nat.{ℕ, suc, _+_, _-_, _*_, _≤_, _<_}
+use mathlib.Core.Path.{_≡_, refl, ap, _∙_}
+use mathlib.Core.List.{List, [], _∷_, _++_, append-assoc}
+use mathlib.Core.Logic.{⊎-elim, inl, inr}
+use native.Mathlib.Nat.{zero-add, add-assoc}
+use native.Mathlib.Omega.{arith}
+use borrow.Author.Tests.{lt-ltb, le-ltb}
+use lib.ListN.{length}
+use Rattle.basics.specs.Choice.{if_then_else_}
+use Rattle.basics.proofs.Tests.{lt-or-ge}
+use Rattle.answer.specs.declared.Answer.{Answer}
+use Rattle.bench.specs.Step.{stepOf}
+use Rattle.bench.specs.declared.step.Bench.{Bench}
+use Rattle.replay.specs.Run.{Run, stop, onto, after, runOf}
+use Rattle.replay.specs.Laws.{Sound, andThen, Runs}
+
+-- nothing before, and two parts before, what a further replay gives
+pub onto-none : (r : Run) → r ≡ onto 0 [] r
+onto-none r = simp zero-add
+
+pub onto-onto : (t u : ℕ) (l m : List Answer) (r : Run) → onto t l (onto u m r) ≡ onto (t + u) (l ++ m) r
+onto-onto t u l m r = simp (add-assoc, append-assoc)
+
+-- a record that has no room, and one that has
+module _ (kind hi lo value : ℕ) (rest : List ℕ) (room : ℕ) (b : Bench) where
+  pub run-full : room < 8 → runOf (kind ∷ hi ∷ lo ∷ value ∷ rest) room b ≡ stop b 4
+  unfolding runOf if_then_else_
+  run-full h = rw (lt-ltb room 8 h)
+
+  pub run-more : 8 ≤ room → runOf (kind ∷ hi ∷ lo ∷ value ∷ rest) room b ≡ after (stepOf b kind hi lo value) (runOf rest (room - 8))
+  unfolding runOf if_then_else_
+  run-more h = rw (le-ltb room 8 h)
+
+-- how a run ends, by what is left of the batch and of the room
+data End (ending left room : ℕ) : Type 0 where
+  empty : ending ≡ 0 → left ≡ 0 → End ending left room
+  short : ending ≡ 3 → 0 < left → left < 4 → End ending left room
+  full : ending ≡ 4 → 4 ≤ left → room < 8 → End ending left room
+
+record Core (batch : List ℕ) (room : ℕ) (r : Run) : Type 0 where
+  pub taken : r .taken ≡ 4 * length (r .answers)
+  pub within : r .taken ≤ length batch
+  pub fits : 8 * length (r .answers) ≤ room
+  pub end : End (r .ending) (length batch - r .taken) (room - 8 * length (r .answers))
+
+cut : (batch : List ℕ) (room : ℕ) (b : Bench) → 0 < length batch → length batch < 4 → Core batch room (stop b 3)
+cut batch room b h k =
+    record { taken = refl; within = omega arith; fits = omega arith; end = short refl (omega arith) (omega arith) }
+
+core : (batch : List ℕ) (room : ℕ) (b : Bench) → Core batch room (runOf batch room b)
+unfolding runOf
+core [] room b = record { taken = refl; within = omega arith; fits = omega arith; end = empty refl (omega arith) }
+core (x ∷ []) room b = cut (x ∷ []) room b (omega arith) (omega arith)
+core (x ∷ y ∷ []) room b = cut (x ∷ y ∷ []) room b (omega arith) (omega arith)
+core (x ∷ y ∷ z ∷ []) room b = cut (x ∷ y ∷ z ∷ []) room b (omega arith) (omega arith)
+core (kind ∷ hi ∷ lo ∷ value ∷ rest) room b =
+    ⊎-elim
+    (λ (h : room < 8).
+    rw (run-full kind hi lo value rest room b h)
+    (record { taken = refl; within = omega arith; fits = omega arith; end = full refl (omega arith) (omega arith) }))
+    (λ (h : 8 ≤ room).
+    let s = stepOf b kind hi lo value in
+    let r = runOf rest (room - 8) (s .bench) in
+    let c = core rest (room - 8) (s .bench) in
+    let left : suc (suc (suc (suc (length rest)))) - (4 + r .taken) ≡ length rest - r .taken = omega arith in
+    let free : room - 8 * suc (length (r .answers)) ≡ room - 8 - 8 * length (r .answers) = omega arith in
+    rw (run-more kind hi lo value rest room b h)
+    (record { taken = omega (arith, c .taken); within = omega (arith, c .within); fits = omega (arith, c .fits); end = rw (left, free) (c .end) }))
+    (lt-or-ge room 8)
+
+sound-core : (batch : List ℕ) (room : ℕ) (r : Run) → Core batch room r → Sound batch room r
+sound-core batch room r c = by-end (c .end) where
+  by-end : End (r .ending) (length batch - r .taken) (room - 8 * length (r .answers)) → Sound batch room r
+  by-end (empty e l) =
+      record {
+        taken = c .taken;
+        within = c .within;
+        fits = c .fits;
+        endings = inl e;
+        none = (λ p. omega (arith, c .within), λ p. e);
+        short = (λ p. absurd (omega arith), λ p. absurd (omega (arith, p .0, p .1)));
+        full = (λ p. absurd (omega arith), λ p. absurd (omega (arith, p .0, p .1)));
+      }
+  by-end (short e l m) =
+      record {
+        taken = c .taken;
+        within = c .within;
+        fits = c .fits;
+        endings = inr (inl e);
+        none = (λ p. absurd (omega arith), λ p. absurd (omega arith));
+        short = (λ p. (omega (arith, c .within), omega arith), λ p. e);
+        full = (λ p. absurd (omega arith), λ p. absurd (omega (arith, p .0, p .1)));
+      }
+  by-end (full e l m) =
+      record {
+        taken = c .taken;
+        within = c .within;
+        fits = c .fits;
+        endings = inr (inr e);
+        none = (λ p. absurd (omega arith), λ p. absurd (omega arith));
+        short = (λ p. absurd (omega arith), λ p. absurd (omega (arith, p .0, p .1)));
+        full = (λ p. (omega (arith, c .within), omega arith), λ p. e);
+      }
+
+pub sound : (batch : List ℕ) (room : ℕ) (b : Bench) → Sound batch room (runOf batch room b)
+sound batch room b = sound-core batch room (runOf batch room b) (core batch room b)
+
+pub run-then : (batch more : List ℕ) (room : ℕ) (b : Bench) → runOf batch room b .ending ≡ 0 → runOf (batch ++ more) room b ≡ andThen (runOf batch room b) more room
+unfolding runOf
+run-then [] more room b h = ap (λ (k : ℕ). runOf more k b) (omega arith) ∙ onto-none (runOf more (room - 0) b)
+run-then (x ∷ []) more room b h = absurd (omega (arith, h))
+run-then (x ∷ y ∷ []) more room b h = absurd (omega (arith, h))
+run-then (x ∷ y ∷ z ∷ []) more room b h = absurd (omega (arith, h))
+run-then (kind ∷ hi ∷ lo ∷ value ∷ rest) more room b h =
+    ⊎-elim
+    (λ (g : room < 8).
+    let z : _≡_ {A = ℕ} 4 0 = rw (run-full kind hi lo value rest room b g) at h in absurd (omega arith))
+    (λ (g : 8 ≤ room).
+    let s = stepOf b kind hi lo value in
+    let r = runOf rest (room - 8) (s .bench) in
+    let free : room - 8 - 8 * length (r .answers) ≡ room - 8 * suc (length (r .answers)) = omega arith in
+    rw (run-more kind hi lo value rest room b g, run-more kind hi lo value (rest ++ more) room b g, ← free)
+    (ap (onto 4 (s .answer ∷ [])) (run-then rest more (room - 8) (s .bench) (rw (run-more kind hi lo value rest room b g) at h))
+    ∙ onto-onto 4 (r .taken) (s .answer ∷ []) (r .answers) (runOf more (room - 8 - 8 * length (r .answers)) (r .bench))))
+    (lt-or-ge room 8)
+
+pub runs : (b : Bench) (room : ℕ) → Runs b room
+runs b room = record { sound = λ batch. sound batch room b; run-then = λ batch more h. run-then batch more room b h }

@@ -1,0 +1,28 @@
+-- Laws of hex digits. Assumes nothing.
+use Prim.Native.Nat.{ℕ, _*_}
+use mathlib.Core.Path.{_≡_, refl, ap}
+use mathlib.Core.List.{List, [], _∷_, _++_}
+use native.Mathlib.Omega.{arith}
+use lib.ListN.{length}
+use Rattle.text.specs.Hex.{pairOf, hexOf}
+
+-- two digits for each byte
+pub length-pair : (b : ℕ) → length (pairOf b) ≡ 2
+unfolding pairOf
+length-pair b = refl
+
+pub length-hex : (bs : List ℕ) → length (hexOf bs) ≡ 2 * length bs
+unfolding hexOf pairOf
+length-hex [] = refl
+length-hex (b ∷ bs) = omega (arith, length-hex bs)
+
+-- the digits of joined bytes are the digits joined
+pub hex-append : (xs bs : List ℕ) → hexOf (xs ++ bs) ≡ hexOf xs ++ hexOf bs
+unfolding hexOf pairOf
+hex-append [] bs = refl
+hex-append (x ∷ xs) bs = ap (λ (l : List ℕ). pairOf x ++ l) (hex-append xs bs)
+
+-- one byte more
+pub hex-next : (xs : List ℕ) (b : ℕ) → hexOf (xs ++ (b ∷ [])) ≡ hexOf xs ++ pairOf b
+unfolding hexOf pairOf
+hex-next xs b = hex-append xs (b ∷ [])
