@@ -1,0 +1,225 @@
+/*
+ * Measures the proved code beside the same rules stepped plainly in Rust and in C, all in one process.
+ * First every side has to come to the same results; then each is timed, in turn with the others, and
+ * the best of several times is printed: a line for each row, its name and the nanoseconds of each side.
+ */
+#include "plain.h"
+
+/* The calls of the C library that are used; no header, so that any C compiler for x86-64 will do. */
+struct moment { long seconds, nanoseconds; };
+int clock_gettime(int which, struct moment *now);
+int printf(const char *form, ...);
+int fflush(void *every);
+
+enum { MONOTONIC = 1, CALL = 65535, ROUNDS = 11, SAMPLE = 20000000 };
+enum { PROVED, RUST, C, SIDES };
+static const char *const names[SIDES] = {"proved", "Rust", "C"};
+
+#ifdef NO_RUST
+enum { HAS_RUST = 0 };
+void rust_clock(struct place *at, const struct registers *regs, unsigned n) { c_clock(at, regs, n); }
+void rust_locate(struct found *out, const struct registers *regs, unsigned latch) { c_locate(out, regs, latch); }
+void rust_fetches(struct counted *at, const struct mode *mode, unsigned n) { c_fetches(at, mode, n); }
+#else
+enum { HAS_RUST = 1 };
+#endif
+
+/* What the sides work on. */
+static struct controller chip;
+static struct registers regs;
+static struct place places[SIDES];
+static struct found cells[SIDES];
+static struct counted counters[SIDES];
+static u16 control_bits;
+static struct mode mode;
+
+static void proved_clock(unsigned n)
+{
+    chip = controller_clock(chip, n);
+    places[PROVED] = (struct place){chip.scan, chip.sync};
+}
+
+/* One call of each kind on each side. */
+static void clock_proved(void) { proved_clock(CALL); }
+static void clock_rust(void) { rust_clock(&places[RUST], &regs, CALL); }
+static void clock_c(void) { c_clock(&places[C], &regs, CALL); }
+static void locate_proved(void) { cells[PROVED] = controller_locate(chip); }
+static void locate_rust(void) { rust_locate(&cells[RUST], &regs, chip.pen.latch); }
+static void locate_c(void) { c_locate(&cells[C], &regs, chip.pen.latch); }
+static void fetch_proved(void) { counters[PROVED] = display_fetches(control_bits, counters[PROVED], CALL); }
+static void fetch_rust(void) { rust_fetches(&counters[RUST], &mode, CALL); }
+static void fetch_c(void) { c_fetches(&counters[C], &mode, CALL); }
+
+typedef void (*work)(void);
+static const work clocks[SIDES] = {clock_proved, clock_rust, clock_c};
+static const work locates[SIDES] = {locate_proved, locate_rust, locate_c};
+static const work fetches[SIDES] = {fetch_proved, fetch_rust, fetch_c};
+
+static double time_of(work call, long calls)
+{
+    struct moment begin, end;
+    clock_gettime(MONOTONIC, &begin);
+    for (long i = 0; i < calls; i++)
+        call();
+    clock_gettime(MONOTONIC, &end);
+    return (end.seconds - begin.seconds) * 1e9 + (end.nanoseconds - begin.nanoseconds);
+}
+
+/* How many calls make a sample long enough to time. */
+static long calls_for_a_sample(work call)
+{
+    long calls = 1;
+    while (time_of(call, calls) < SAMPLE)
+        calls *= 2;
+    return calls;
+}
+
+/* Prints a row: the best time of each side, for one of the units that a call has. */
+static void measure(const char *row, const work sides[SIDES], double units)
+{
+    long calls[SIDES];
+    double best[SIDES];
+    for (int side = 0; side < SIDES; side++) {
+        calls[side] = calls_for_a_sample(sides[side]);
+        best[side] = time_of(sides[side], calls[side]) / calls[side];
+    }
+    for (int round = 1; round < ROUNDS; round++)
+        for (int side = 0; side < SIDES; side++) {
+            double took = time_of(sides[side], calls[side]) / calls[side];
+            if (took < best[side])
+                best[side] = took;
+        }
+    printf("%s\t%.6f\t%.6f\t%.6f\n", row, best[PROVED] / units, HAS_RUST ? best[RUST] / units : -1, best[C] / units);
+    fflush(0);
+}
+
+static int differs(const char *row, int side, unsigned long step, int same)
+{
+    if (same)
+        return 0;
+    printf("differs\t%s\t%s\t%lu\n", row, names[side], step);
+    return 1;
+}
+
+static int same_place(struct place a, struct place b)
+{
+    return a.scan.column == b.scan.column && a.scan.line == b.scan.line && a.scan.row == b.scan.row
+        && a.scan.base == b.scan.base && a.scan.start == b.scan.start && a.scan.field == b.scan.field
+        && a.scan.adjusting == b.scan.adjusting && a.sync.hsync == b.sync.hsync && a.sync.vsync == b.sync.vsync;
+}
+
+static int same_cell(struct found a, struct found b)
+{
+    return a.refusal == b.refusal && a.row == b.row && a.column == b.column;
+}
+
+static int same_counter(struct counted a, struct counted b)
+{
+    return a.b == b.b && a.x == b.x && a.y == b.y;
+}
+
+/* The numbers of times that the comparison goes on by, in turn. */
+static const u16 strides[] = {0, 1, 2, 3, 7, 61, 64, 257, 1000, 4099, 65535};
+enum { STRIDES = sizeof strides / sizeof strides[0], TURNS = 8 };
+
+/* All sides at the place that a reset with these registers leaves. */
+static void reset_with(const u8 held[16])
+{
+    chip = (struct controller){0};
+    for (int k = 0; k < 16; k++)
+        chip.regs.held[k] = held[k];
+    chip = controller_reset(chip);
+    regs = chip.regs;
+    for (int side = 0; side < SIDES; side++)
+        places[side] = (struct place){chip.scan, chip.sync};
+}
+
+static int compare_clocks(const char *row, const u8 held[16])
+{
+    unsigned long gone = 0;
+    reset_with(held);
+    for (int turn = 0; turn < TURNS * STRIDES; turn++) {
+        u16 n = strides[turn % STRIDES];
+        gone += n;
+        proved_clock(n);
+        rust_clock(&places[RUST], &regs, n);
+        c_clock(&places[C], &regs, n);
+        for (int side = RUST; side < SIDES; side++)
+            if (differs(row, side, gone, same_place(places[side], places[PROVED])))
+                return 1;
+    }
+    return 0;
+}
+
+/* A strike after that many character times, located on every side. */
+static int compare_locates(const char *row, const u8 held[16], u16 time)
+{
+    reset_with(held);
+    chip = controller_strike(controller_clock(chip, time));
+    for (int side = 0; side < SIDES; side++)
+        locates[side]();
+    for (int side = RUST; side < SIDES; side++)
+        if (differs(row, side, time, same_cell(cells[side], cells[PROVED])))
+            return 1;
+    return 0;
+}
+
+static int compare_fetches(const char *row, u16 bits, struct mode limits)
+{
+    unsigned long gone = 0;
+    control_bits = bits;
+    mode = limits;
+    for (int side = 0; side < SIDES; side++)
+        counters[side] = (struct counted){0, 0, 0};
+    for (int turn = 0; turn < TURNS * STRIDES; turn++) {
+        u16 n = strides[turn % STRIDES];
+        gone += n;
+        counters[PROVED] = display_fetches(control_bits, counters[PROVED], n);
+        rust_fetches(&counters[RUST], &mode, n);
+        c_fetches(&counters[C], &mode, n);
+        for (int side = RUST; side < SIDES; side++)
+            if (differs(row, side, gone, same_counter(counters[side], counters[PROVED])))
+                return 1;
+    }
+    return 0;
+}
+
+/* R0 to R15 of each setting. The last three are compared and not timed: adjust lines, and frames that miss their ends. */
+static const struct setting { const char *row; u8 held[16]; } settings[] = {
+    {"clock-63", {63, 40, 50, 0x28, 38, 0, 25, 30, 0, 7}},
+    {"clock-255", {255, 40, 50, 0x28, 38, 0, 25, 30, 0, 7}},
+    {"clock-1", {1, 40, 50, 0x28, 38, 0, 25, 30, 0, 7}},
+    {"clock-0", {0}},
+    {"adjusting", {3, 2, 0, 0, 1, 1, 2, 0, 0, 1}},
+    {"adjusting long", {7, 6, 5, 0x3f, 4, 31, 3, 2, 0, 9, 0, 0, 63, 255}},
+    {"adjusting short", {2, 200, 1, 0xf1, 126, 3, 127, 5, 4, 31, 0, 0, 1, 2}},
+};
+enum { TIMED = 4, SETTINGS = sizeof settings / sizeof settings[0] };
+
+/* The largest picture. Its addresses go round almost twice: the first strike has a cell of its own, the second shares its address. */
+static const u8 largest[16] = {255, 255, 0, 0, 127, 0, 127};
+enum { ALONE = 63 * 256 + 135, SHARED = 10 * 256 + 20 };
+
+/* The two display modes, by the control bits V2 V1 V0. */
+static const struct mode mode_000 = {1, 12}, mode_001 = {3, 1};
+
+int main(void)
+{
+    for (int k = 0; k < SETTINGS; k++)
+        if (compare_clocks(settings[k].row, settings[k].held))
+            return 1;
+    for (int k = 0; k < TIMED; k++) {
+        reset_with(settings[k].held);
+        measure(settings[k].row, clocks, CALL);
+    }
+    if (compare_locates("locate", largest, SHARED) || compare_locates("locate", largest, ALONE))
+        return 1;
+    measure("locate", locates, 1);
+    if (compare_fetches("fetch-000", 0, mode_000))
+        return 1;
+    measure("fetch-000", fetches, CALL);
+    if (compare_fetches("fetch-001", 1, mode_001))
+        return 1;
+    measure("fetch-001", fetches, CALL);
+    return 0;
+}

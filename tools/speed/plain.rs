@@ -1,0 +1,201 @@
+//! Document 01's rules stepped plainly in Rust: a character time, a display fetch, a search over the picture's cells.
+//! It stands on no library, so that it can be compiled for x86-64 on any machine.
+#![no_std]
+
+#[derive(Clone, Copy)]
+#[repr(C)]
+pub struct Registers {
+    held: [u8; 16],
+    named: u8,
+}
+
+#[derive(Clone, Copy)]
+#[repr(C)]
+pub struct Scan {
+    column: u8,
+    line: u8,
+    row: u8,
+    base: u16,
+    start: u16,
+    field: u8,
+    adjusting: bool,
+}
+
+#[derive(Clone, Copy)]
+#[repr(C)]
+pub struct Sync {
+    hsync: u8,
+    vsync: u8,
+}
+
+#[derive(Clone, Copy)]
+#[repr(C)]
+pub struct Place {
+    scan: Scan,
+    sync: Sync,
+}
+
+#[repr(C)]
+pub struct Found {
+    refusal: u8,
+    row: u8,
+    column: u8,
+}
+
+#[derive(Clone, Copy)]
+#[repr(C)]
+pub struct Counted {
+    b: u16,
+    x: u8,
+    y: u8,
+}
+
+#[derive(Clone, Copy)]
+#[repr(C)]
+pub struct Mode {
+    x: u8,
+    y: u8,
+}
+
+impl Scan {
+    fn next_row(&mut self, r: &Registers) {
+        self.line = 0;
+        self.row = (self.row + 1) % 128;
+        self.base = (self.base + u16::from(r.held[1])) % 16384;
+    }
+
+    fn next_frame(&mut self, r: &Registers) {
+        self.line = 0;
+        self.row = 0;
+        self.adjusting = false;
+        self.start = 256 * u16::from(r.held[12]) + u16::from(r.held[13]);
+        self.base = self.start;
+        self.field = (self.field + 1) % 32;
+    }
+
+    fn next_line(&mut self, r: &Registers) {
+        if self.adjusting {
+            if (self.line + 1) % 32 == r.held[5] {
+                self.next_frame(r);
+            } else {
+                self.line = (self.line + 1) % 32;
+            }
+        } else if self.line != r.held[9] {
+            self.line = (self.line + 1) % 32;
+        } else if self.row != r.held[4] {
+            self.next_row(r);
+        } else if r.held[5] == 0 {
+            self.next_frame(r);
+        } else {
+            self.next_row(r);
+            self.adjusting = true;
+        }
+    }
+}
+
+impl Sync {
+    fn arrive(&mut self, s: &Scan, r: &Registers) {
+        if s.column == r.held[2] {
+            self.hsync = r.held[3] % 16;
+        } else if self.hsync > 0 {
+            self.hsync -= 1;
+        }
+        if s.column != 0 {
+            return;
+        }
+        if s.row == r.held[7] && s.line == 0 && !s.adjusting {
+            self.vsync = if r.held[3] / 16 == 0 { 16 } else { r.held[3] / 16 };
+        } else if self.vsync > 0 {
+            self.vsync -= 1;
+        }
+    }
+}
+
+impl Place {
+    fn step(&mut self, r: &Registers) {
+        if self.scan.column != r.held[0] {
+            self.scan.column = self.scan.column.wrapping_add(1);
+        } else {
+            self.scan.column = 0;
+            self.scan.next_line(r);
+        }
+        self.sync.arrive(&self.scan, r);
+    }
+}
+
+/// n character times.
+#[no_mangle]
+pub extern "C" fn rust_clock(at: &mut Place, regs: &Registers, n: u32) {
+    let mut p = *at;
+    let r = *regs;
+    for _ in 0..n {
+        p.step(&r);
+    }
+    *at = p;
+}
+
+fn cell_address(r: &Registers, row: u32, column: u32) -> u32 {
+    let (high, low) = (u32::from(r.held[12]), u32::from(r.held[13]));
+    if r.held[8] / 4 % 2 == 1 {
+        return 256 * ((high + row) % 64) + (low + column) % 256;
+    }
+    (256 * high + low + row * u32::from(r.held[1]) + column) % 16384
+}
+
+fn shown_of(shown: u8, last: u8) -> u32 {
+    u32::from(shown).min(u32::from(last) + 1)
+}
+
+/// The cells that fit a picture strike's latch, looked for in every cell.
+#[no_mangle]
+pub extern "C" fn rust_locate(out: &mut Found, regs: &Registers, latch: u32) {
+    let r = *regs;
+    let (rows, columns) = (shown_of(r.held[6], r.held[4]), shown_of(r.held[1], r.held[0]));
+    let mut found = Found { refusal: 7, row: 0, column: 0 };
+    let mut fits = 0;
+    for row in 0..rows {
+        for column in 0..columns {
+            if (cell_address(&r, row, column) + 2) % 16384 == latch {
+                fits += 1;
+                found = Found { refusal: 0, row: row as u8, column: column as u8 };
+            }
+        }
+    }
+    *out = if fits > 1 { Found { refusal: 8, row: 0, column: 0 } } else { found };
+}
+
+impl Counted {
+    fn fetch(&mut self, m: &Mode) {
+        if self.b % 16 != 15 {
+            self.b += 1;
+            return;
+        }
+        self.b -= 15;
+        self.x += 1;
+        if self.x < m.x {
+            return;
+        }
+        self.x = 0;
+        self.b ^= 16;
+        if self.b / 16 % 2 == 1 {
+            return;
+        }
+        self.y += 1;
+        if self.y < m.y {
+            return;
+        }
+        self.y = 0;
+        self.b = self.b.wrapping_add(32);
+    }
+}
+
+/// n display fetches.
+#[no_mangle]
+pub extern "C" fn rust_fetches(at: &mut Counted, mode: &Mode, n: u32) {
+    let mut d = *at;
+    let m = *mode;
+    for _ in 0..n {
+        d.fetch(&m);
+    }
+    *at = d;
+}
