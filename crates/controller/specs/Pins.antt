@@ -11,7 +11,7 @@ use Rattle.controller.specs.declared.pins.Outputs.{Outputs}
 unfoldable pub pinOf : Bool → Bool → Bool → Bool
 pinOf delayed left here = if delayed then left else here
 
--- all outputs. RA is the line; a sync is high while its count is above 0.
+-- all outputs. RA is the line; a sync pin shows that its count has not run out.
 unfoldable pub outputsOf : Controller → Outputs
 outputsOf c = record {
   ma = maOf (c .regs) (c .scan);

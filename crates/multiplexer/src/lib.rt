@@ -1,4 +1,4 @@
-// The MC6883 multiplexer: device selects, cell routing, rate, display counter and refresh.
+// The MC6883 multiplexer as a whole: what a bus cycle shows, where memory lies, and what HS does to display and refresh.
 mod bus;
 mod cells;
 mod chip;

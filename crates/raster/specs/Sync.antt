@@ -1,5 +1,5 @@
--- The two sync counts, as an arrival at a character changes them (document 01, "One character time"). A sync is high while its count
--- is above 0; a match while a pulse runs loads the count again.
+-- The two sync counts, as an arrival at a character changes them (document 01, "One character time"). A sync pin
+-- shows whether its count still runs; where a new pulse is due before the old one is over, the count is loaded anew.
 use Prim.Native.Nat.{ℕ, _-_, _%_, _/_}
 use mathlib.Core.Bool.{Bool, true, false, not, _&&_}
 use lib.Dec.{eqb}

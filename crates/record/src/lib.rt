@@ -1,4 +1,4 @@
-// A record of four bytes, decoded once: to a known event or to a refusal.
+// A record: its four bytes turned, one time and for all, into what is to be done, or into the reason why nothing is.
 mod event;
 mod kinds;
 
