@@ -1,22 +1,21 @@
--- Laws of `iterate`, and what a loop that applies f once a turn needs: its invariant is `(i ≤ n) × (x ≡ iterate f i x₀)`.
--- Assumes nothing.
+-- Laws of `iterate`, and what a loop over it needs, whose invariant is `(i ≤ n) × (x ≡ iterate f i x₀)`. Assumes nothing.
 use Prim.Native.Nat.{ℕ, zero, suc, _+_, _*_, _<_, _≤_}
 use mathlib.Core.Path.{_≡_, refl, ap, _∙_}
-use native.Mathlib.Numerals.{add-one}
 use native.Mathlib.Nat.{zero-add, suc-add, zero-mul, suc-mul, lt-suc-self}
 use native.Mathlib.Omega.{arith}
 use Rattle.basics.specs.Iterate.{iterate}
+
+-- a step taken first may be taken last
+iterate-in : {A : Type 0} (f : A → A) (n : ℕ) (x : A) → iterate f n (f x) ≡ f (iterate f n x)
+unfolding iterate
+iterate-in f zero x = refl
+iterate-in f (suc n) x = ap f (iterate-in f n x)
 
 module _ {A : Type 0} (f : A → A) where
   -- before the first turn
   pub iterate-none : (x : A) → x ≡ iterate f 0 x
   unfolding iterate
   iterate-none x = refl
-
-  -- one turn more
-  pub iterate-more : (i : ℕ) (x y z : A) → y ≡ iterate f i x → z ≡ f y → z ≡ iterate f (i + 1) x
-  unfolding iterate
-  iterate-more i x y z e q = rw add-one (q ∙ ap f e)
 
   -- after the last turn
   pub iterate-done : (i n : ℕ) (x y : A) → i ≤ n → n ≤ i → y ≡ iterate f i x → y ≡ iterate f n x
@@ -26,11 +25,6 @@ module _ {A : Type 0} (f : A → A) where
   unfolding iterate
   iterate-add zero n x = rw zero-add
   iterate-add (suc m) n x = rw suc-add (ap f (iterate-add m n x))
-
-  pub iterate-in : (n : ℕ) (x : A) → iterate f n (f x) ≡ f (iterate f n x)
-  unfolding iterate
-  iterate-in zero x = refl
-  iterate-in (suc n) x = ap f (iterate-in n x)
 
   -- a run of places, each the next step of the one before it
   pub iterate-run : (at : ℕ → A) (n : ℕ) → ((k : ℕ) → k < n → f (at k) ≡ at (suc k)) → iterate f n (at 0) ≡ at n
@@ -45,7 +39,4 @@ module _ {A : Type 0} (f : A → A) where
   unfolding iterate
   iterate-turns P g n e k zero x p = rw zero-mul
   iterate-turns P g n e k (suc m) x p =
-      rw (suc-mul, iterate-add, e x p) (iterate-turns P g n e k m (g x) (k x p) ∙ gather m x) where
-        gather : (m : ℕ) (x : A) → iterate g m (g x) ≡ g (iterate g m x)
-        gather zero x = refl
-        gather (suc m) x = ap g (gather m x)
+      rw (suc-mul, iterate-add, e x p) (iterate-turns P g n e k m (g x) (k x p) ∙ iterate-in g m x)

@@ -5,16 +5,7 @@ use mathlib.Core.Bool.{Bool, true, false}
 use native.Mathlib.Nat.{mul-le-mul}
 use native.Mathlib.Omega.{arith}
 use lib.Dec.{lit<}
-use Rattle.basics.specs.Bits.{num, wordOf, highOf, lowOf}
-
-pub word-of-bytes : (x : ℕ) → wordOf (highOf x) (lowOf x) ≡ x
-word-of-bytes x = omega arith
-
-pub high-of-word : (high low : ℕ) → low < 256 → highOf (wordOf high low) ≡ high
-high-of-word high low l = omega arith
-
-pub low-of-word : (high low : ℕ) → low < 256 → lowOf (wordOf high low) ≡ low
-low-of-word high low l = omega arith
+use Rattle.basics.specs.Bits.{num}
 
 -- a yes or no as a number is below 2
 pub num-lt : (yes : Bool) → num yes < 2

@@ -1,4 +1,4 @@
--- Bytes laid at a place of a buffer. What every writer does to the buffer lent to it is said by these two definitions.
+-- Bytes laid at a place of a buffer. What every writer does to the buffer lent to it is said by these definitions.
 use Prim.Native.Nat.{ℕ, _+_, _≤_}
 use mathlib.Core.Bool.{Bool}
 use mathlib.Core.List.{List, _++_}

@@ -16,7 +16,7 @@ element-write-q c = search needs
 
 returns : tie.Need-returns
 unfolding storedOf
-returns c = if-yes _ _ _ _ (lt-ltb _ _ (c .before .if1 .taken)) (cc)
+returns c = if-yes _ _ _ _ (lt-ltb _ _ (c .before .if1 .taken)) (rw (c .kept .ensures))
 
 returns-2 : tie.Need-returns-2
 unfolding storedOf

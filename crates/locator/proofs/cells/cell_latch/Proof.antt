@@ -17,7 +17,7 @@ counted-requires c κs = search needs
 
 returns : tie.Need-returns
 unfolding cellLatchOf cellAddressOf
-returns c = cc
+returns c = rw (c .before .address .ensures, c .before .before .start .ensures, c .before .before .before .row-base .ensures) at (c .counted .ensures)
 
 pub cell-latch-spec : {M : Type 1} → statement M
 cell-latch-spec =

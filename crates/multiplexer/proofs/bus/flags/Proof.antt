@@ -47,7 +47,10 @@ add-result-2 c = omega (arith, bits c)
 
 returns : tie.Need-returns
 unfolding flagsOf
-returns c = cc
+returns c =
+    let second = c .before .before in
+    let first = second .before .before in
+    rw (c .number3 .ensures, c .before .is-control-write .ensures, second .number2 .ensures, second .before .is-barred .ensures, first .number .ensures, first .before .is-ram .ensures)
 
 pub flags-spec : {M : Type 1} → statement M
 flags-spec =

@@ -11,7 +11,7 @@ add-column c = search needs
 
 returns : tie.Need-returns
 unfolding columnsOn
-returns c = cc
+returns c = rw (c .before .before .before .hsync-columns .ensures)
 
 pub columns-on-spec : {M : Type 1} → statement M
 columns-on-spec = tie.close (tie.spec hsync-columns-requires add-column returns)

@@ -11,7 +11,7 @@ arrive-requires c κs = search needs
 
 returns : tie.Need-returns
 unfolding arrivedOf
-returns c = cc
+returns c = rw (c .arrive .ensures, c .before .top .ensures)
 
 pub arrived-spec : {M : Type 1} → statement M
 arrived-spec = tie.close (tie.spec top-requires arrive-requires returns)

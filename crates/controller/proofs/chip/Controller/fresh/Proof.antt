@@ -8,7 +8,7 @@ arrived-requires c κs = search needs
 
 returns : tie.Need-returns
 unfolding freshOf
-returns c = cc
+returns c = c .arrived .ensures
 
 pub fresh-spec : {M : Type 1} → statement M
 fresh-spec = tie.close (tie.spec arrived-requires returns)

@@ -26,7 +26,18 @@ pin-requires-2 c κs = search needs
 
 returns : tie.Need-returns
 unfolding outputsOf
-returns c = cc
+returns c =
+    let cursor = c .before .before in
+    let display = cursor .before .before .before in
+    rw (
+      cursor .pin2 .ensures,
+      cursor .before .cursor .ensures,
+      cursor .before .before .cursor-delayed .ensures,
+      display .pin .ensures,
+      display .before .display-delayed .ensures,
+      display .before .before .ma .ensures,
+      display .before .before .before .picture .ensures,
+    )
 
 pub outputs-spec : {M : Type 1} → statement M
 outputs-spec =

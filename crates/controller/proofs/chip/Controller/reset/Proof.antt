@@ -8,7 +8,7 @@ arrived-requires c κs = search needs
 
 returns : tie.Need-returns
 unfolding resetOf
-returns c = cc
+returns c = c .arrived .ensures
 
 pub reset-spec : {M : Type 1} → statement M
 reset-spec = tie.close (tie.spec arrived-requires returns)

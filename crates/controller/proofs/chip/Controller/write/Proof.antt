@@ -8,7 +8,7 @@ written-requires c κs = search needs
 
 returns : tie.Need-returns
 unfolding writeOf
-returns c = cc
+returns c = rw (c .written .ensures)
 
 pub write-spec : {M : Type 1} → statement M
 write-spec = tie.close (tie.spec written-requires returns)

@@ -9,7 +9,7 @@ start-requires : tie.Need-start-requires
 start-requires c κs = search needs
 
 returns : tie.Need-returns
-returns c = cc
+returns c = rw (c .start .ensures, c .before .clear .ensures)
 
 pub fresh-spec : {M : Type 1} → statement M
 fresh-spec = tie.close (tie.spec clear-requires start-requires returns)
