@@ -8,7 +8,7 @@ address-requires c κs = search needs
 
 returns : tie.Need-returns
 unfolding maOf
-returns c = cc
+returns c = c .address .ensures
 
 pub ma-spec : {M : Type 1} → statement M
 ma-spec = tie.close (tie.spec address-requires returns)

@@ -11,7 +11,7 @@ cursor-requires c κs = search needs
 
 returns : tie.Need-returns
 unfolding factsOf
-returns c = cc
+returns c = rw (c .cursor .ensures, c .before .picture .ensures)
 
 pub at-spec : {M : Type 1} → statement M
 at-spec = tie.close (tie.spec picture-requires cursor-requires returns)

@@ -6,7 +6,7 @@ start-requires : tie.Need-start-requires
 start-requires c κs = search needs
 
 returns : tie.Need-returns
-returns c = cc
+returns c = rw (c .start .ensures)
 
 pub top-spec : {M : Type 1} → statement M
 top-spec = tie.close (tie.spec start-requires returns)
