@@ -254,14 +254,7 @@ fn sixteen_falls_refresh_all_128_rows_from_wherever_they_begin() {
             for row in first..first + count {
                 visits[usize::from(row)] += 1;
             }
-            assert_eq!(
-                trial.hs(1, 0),
-                Edge {
-                    edge: 2,
-                    first: 0,
-                    count: 0
-                }
-            );
+            assert_eq!(trial.hs(1, 0), Edge::idle(2));
         }
         assert_eq!(visits, [1; 128]);
     }
@@ -271,28 +264,10 @@ fn sixteen_falls_refresh_all_128_rows_from_wherever_they_begin() {
 fn refresh_begins_at_0_moves_by_8_and_wraps() {
     let mut trial = Trial::fresh();
     for fall in 0..20u8 {
-        let expected = Edge {
-            edge: 1,
-            first: (fall % 16) * 8,
-            count: 8,
-        };
+        let expected = Edge::refreshing(1, (fall % 16) * 8, 8);
         assert_eq!(trial.hs(0, 1), expected);
-        assert_eq!(
-            trial.hs(0, 0),
-            Edge {
-                edge: 0,
-                first: 0,
-                count: 0
-            }
-        );
-        assert_eq!(
-            trial.hs(1, 1),
-            Edge {
-                edge: 3,
-                first: 0,
-                count: 0
-            }
-        );
+        assert_eq!(trial.hs(0, 0), Edge::idle(0));
+        assert_eq!(trial.hs(1, 1), Edge::idle(3));
     }
 }
 
@@ -302,26 +277,12 @@ fn with_r1_set_there_is_no_access_and_no_refresh_but_all_counting() {
     trial.hs_pulse();
     trial.set_bit(bit::R1);
     assert_eq!(trial.fetch(0x1234), [0x12, 0x34, 1, 0x34, 0x08, 0]);
-    assert_eq!(
-        trial.hs(0, 0),
-        Edge {
-            edge: 1,
-            first: 0,
-            count: 0
-        }
-    );
+    assert_eq!(trial.hs(0, 0), Edge::idle(1));
     assert_eq!(trial.fetched(0), 0x1240);
     trial.hs(1, 0);
     trial.clear_bit(bit::R1);
     assert_eq!(trial.fetch(0), [0x12, 0x40, 1, 0x00, 0x09, 1]);
-    assert_eq!(
-        trial.hs(0, 0),
-        Edge {
-            edge: 1,
-            first: 8,
-            count: 8
-        }
-    );
+    assert_eq!(trial.hs(0, 0), Edge::refreshing(1, 8, 8));
 }
 
 #[test]
@@ -329,14 +290,7 @@ fn r0_alone_does_not_stop_access_or_refresh() {
     let mut trial = in_mode(6);
     trial.set_bit(bit::R0);
     assert_eq!(trial.fetch(1)[5], 1);
-    assert_eq!(
-        trial.hs(0, 0),
-        Edge {
-            edge: 1,
-            first: 0,
-            count: 8
-        }
-    );
+    assert_eq!(trial.hs(0, 0), Edge::refreshing(1, 0, 8));
 }
 
 #[test]
@@ -348,12 +302,5 @@ fn reset_makes_the_multiplexer_fresh_with_hs_high() {
     trial.hs(0, 1);
     trial.reset_multiplexer();
     assert_eq!(trial.bench, Trial::fresh().bench);
-    assert_eq!(
-        trial.hs(0, 0),
-        Edge {
-            edge: 1,
-            first: 0,
-            count: 8
-        }
-    );
+    assert_eq!(trial.hs(0, 0), Edge::refreshing(1, 0, 8));
 }

@@ -33,6 +33,18 @@ pub struct Edge {
     pub count: u8,
 }
 
+impl Edge {
+    /// An edge at which `count` rows from `first` on are refreshed.
+    pub fn refreshing(edge: u8, first: u8, count: u8) -> Edge {
+        Edge { edge, first, count }
+    }
+
+    /// An edge at which nothing is refreshed.
+    pub fn idle(edge: u8) -> Edge {
+        Edge::refreshing(edge, 0, 0)
+    }
+}
+
 /// The multiplexer's control bits by their place from $FFC0.
 pub mod bit {
     pub const V0: u16 = 0;
