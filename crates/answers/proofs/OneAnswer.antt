@@ -1,5 +1,5 @@
 -- One answer: of every public function, over its real contract (`Post`, which Rattle makes of the source's clauses), two results that meet
--- it are equal, and so are the contents of a buffer lent to it. tools/check-contracts holds this list to the public functions.
+-- it are equal, and so are the contents of every buffer lent to it. tools/check-contracts holds this list to the public functions.
 -- Assumes nothing.
 use Prim.Native.Nat.{ℕ}
 use mathlib.Core.Path.{_≡_}
@@ -12,7 +12,6 @@ use Rattle.basics.proofs.low.Reads as basics·low
 use Rattle.basics.proofs.number.Reads as basics·number
 use Rattle.basics.proofs.put.Reads as basics·put
 use Rattle.basics.proofs.width.Width.counted.Reads as basics·counted
-use Rattle.basics.proofs.width.Width.values.Reads as basics·values
 use Rattle.basics.proofs.word.Reads as basics·word
 use Rattle.raster.proofs.registers.Registers.by_rows.Reads as raster·by-rows
 use Rattle.raster.proofs.registers.Registers.cursor_delayed.Reads as raster·cursor-delayed
@@ -25,6 +24,7 @@ use Rattle.facts.proofs.address.Reads as facts·address
 use Rattle.facts.proofs.cursor.Reads as facts·cursor
 use Rattle.facts.proofs.facts.Facts.at.Reads as facts·at
 use Rattle.facts.proofs.latch.Reads as facts·latch
+use Rattle.facts.proofs.latched.Reads as facts·latched
 use Rattle.facts.proofs.ma.Reads as facts·ma
 use Rattle.facts.proofs.picture.Reads as facts·picture
 use Rattle.clocks.proofs.place.Place.walk.Reads as clocks·walk
@@ -51,7 +51,6 @@ use Rattle.control.proofs.bits.Control.ty.Reads as control·ty
 use Rattle.control.proofs.bits.Control.written.Reads as control·written
 use Rattle.control.proofs.is_control_write.Reads as control·is-control-write
 use Rattle.display.proofs.counter.Display.fall.Reads as display·fall
-use Rattle.display.proofs.counter.Display.fetch.Reads as display·fetch
 use Rattle.display.proofs.counter.Display.fetches.Reads as display·fetches
 use Rattle.display.proofs.counter.Display.preload.Reads as display·preload
 use Rattle.display.proofs.counter.Display.start.Reads as display·start
@@ -87,15 +86,17 @@ use Rattle.exports.proofs.display_fetches.Reads as exports·display-fetches
 abbrev pub OneAnswer : {K : Type 0} {D R S : K → Type 0} → ((κs : K) → D κs → R κs → S κs → Type 0) → Type 0
 OneAnswer {K} {D} {R} {S} P = (κs : K) (a : D κs) (x y : R κs) (s t : S κs) → P κs a x s → P κs a y t → x ≡ y
 
--- the same with a buffer: what it holds afterwards is one too
-abbrev pub OneOutcome : {K : Type 0} {D R S : K → Type 0} → ((κs : K) → D κs → R κs → S κs → Type 0) → ((κs : K) → S κs → List ℕ) → Type 0
-OneOutcome {K} {D} {R} {S} P held =
-    (κs : K) (a : D κs) (x y : R κs) (s t : S κs) → P κs a x s → P κs a y t → (x ≡ y) × (held κs s ≡ held κs t)
+-- the same with two lent buffers: what the written one and the one that is only read hold afterwards is one too
+abbrev pub OneOutcome : {K : Type 0} {D R S : K → Type 0} → ((κs : K) → D κs → R κs → S κs → Type 0) → (written read : (κs : K) → S κs → List ℕ) → Type 0
+OneOutcome {K} {D} {R} {S} P written read =
+    (κs : K) (a : D κs) (x y : R κs) (s t : S κs) → P κs a x s → P κs a y t
+    → (x ≡ y) × (written κs s ≡ written κs t) × (read κs s ≡ read κs t)
 
--- and where the answer is a part of the caller's own slice: its bytes and its place are one
-abbrev pub OnePart : {K : Type 0} {D R S : K → Type 0} {Q : Type 0} → ((κs : K) → D κs → R κs → S κs → Type 0) → ((κs : K) → R κs → List ℕ) → ((κs : K) → R κs → Q) → Type 0
-OnePart {K} {D} {R} {S} {Q} P bytes place =
-    (κs : K) (a : D κs) (x y : R κs) (s t : S κs) → P κs a x s → P κs a y t → (bytes κs x ≡ bytes κs y) × (place κs x ≡ place κs y)
+-- and where the answer is a part of the caller's own slice: its bytes, its place, and the slice itself are one
+abbrev pub OnePart : {K : Type 0} {D R S : K → Type 0} {Q : Type 0} → ((κs : K) → D κs → R κs → S κs → Type 0) → ((κs : K) → R κs → List ℕ) → ((κs : K) → R κs → Q) → ((κs : K) → S κs → List ℕ) → Type 0
+OnePart {K} {D} {R} {S} {Q} P bytes place read =
+    (κs : K) (a : D κs) (x y : R κs) (s t : S κs) → P κs a x s → P κs a y t
+    → (bytes κs x ≡ bytes κs y) × (place κs x ≡ place κs y) × (read κs s ≡ read κs t)
 
 pub basics-flag : OneAnswer basics·flag.Post
 basics-flag κs a x y s t p q = one-answer (p .0) (q .0)
@@ -109,14 +110,11 @@ basics-low κs a x y s t p q = one-answer p q
 pub basics-number : OneAnswer basics·number.Post
 basics-number κs a x y s t p q = one-answer p q
 
-pub basics-put : OneOutcome basics·put.Post (λ κs s. now (s .0))
-basics-put κs a x y s t p q = (one-answer (p .0) (q .0), one-answer (p .1 .0) (q .1 .0))
+pub basics-put : OneOutcome basics·put.Post (λ κs s. now (s .0)) (λ κs s. now (s .1 .1 .0))
+basics-put κs a x y s t p q = (one-answer (p .0) (q .0), one-answer (p .1 .0) (q .1 .0), one-answer (p .1 .1) (q .1 .1))
 
 pub basics-counted : OneAnswer basics·counted.Post
 basics-counted κs a x y s t p q = one-answer p q
-
-pub basics-values : OneAnswer basics·values.Post
-basics-values κs a x y s t p q = one-answer p q
 
 pub basics-word : OneAnswer basics·word.Post
 basics-word κs a x y s t p q = one-answer p q
@@ -153,6 +151,9 @@ facts-at κs a x y s t p q = one-answer p q
 
 pub facts-latch : OneAnswer facts·latch.Post
 facts-latch κs a x y s t p q = one-answer p q
+
+pub facts-latched : OneAnswer facts·latched.Post
+facts-latched κs a x y s t p q = one-answer p q
 
 pub facts-ma : OneAnswer facts·ma.Post
 facts-ma κs a x y s t p q = one-answer p q
@@ -232,9 +233,6 @@ control-is-control-write κs a x y s t p q = one-answer p q
 pub display-fall : OneAnswer display·fall.Post
 display-fall κs a x y s t p q = one-answer p q
 
-pub display-fetch : OneAnswer display·fetch.Post
-display-fetch κs a x y s t p q = one-answer p q
-
 pub display-fetches : OneAnswer display·fetches.Post
 display-fetches κs a x y s t p q = one-answer p q
 
@@ -283,8 +281,8 @@ answer-done κs a x y s t p q = one-answer p q
 pub answer-plain : OneAnswer answer·plain.Post
 answer-plain κs a x y s t p q = one-answer p q
 
-pub text-put-hex : OneOutcome text·put-hex.Post (λ κs s. now (s .0))
-text-put-hex κs a x y s t p q = (one-answer (p .0) (q .0), one-answer (p .1 .0) (q .1 .0))
+pub text-put-hex : OneOutcome text·put-hex.Post (λ κs s. now (s .0)) (λ κs s. now (s .1 .1 .0))
+text-put-hex κs a x y s t p q = (one-answer (p .0) (q .0), one-answer (p .1 .0) (q .1 .0), one-answer (p .1 .1) (q .1 .1))
 
 pub bench-clock : OneAnswer bench·clock.Post
 bench-clock κs a x y s t p q = one-answer p q
@@ -298,17 +296,17 @@ bench-strike κs a x y s t p q = one-answer p q
 pub bench-write : OneAnswer bench·write.Post
 bench-write κs a x y s t p q = one-answer p q
 
-pub replay-replay : OneOutcome replay·replay.Post (λ κs s. now (s .1 .0))
-replay-replay κs a x y s t p q = (one-answer (p .0) (q .0), one-answer (p .1 .0) (q .1 .0))
+pub replay-replay : OneOutcome replay·replay.Post (λ κs s. now (s .1 .0)) (λ κs s. now (s .0))
+replay-replay κs a x y s t p q = (one-answer (p .0) (q .0), one-answer (p .1 .0) (q .1 .0), one-answer (p .1 .1) (q .1 .1))
 
-pub replay-unread-rest : OnePart replay·unread-rest.Post (λ κs r. now r) (λ κs r. r .ptr)
-replay-unread-rest κs a x y s t p q = (one-answer (p .0) (q .0), one-answer (p .1 .0) (q .1 .0))
+pub replay-unread-rest : OnePart replay·unread-rest.Post (λ κs r. now r) (λ κs r. r .ptr) (λ κs s. now (s .0))
+replay-unread-rest κs a x y s t p q = (one-answer (p .0) (q .0), one-answer (p .1 .0) (q .1 .0), one-answer (p .1 .1) (q .1 .1))
 
-pub lister-list : OneOutcome lister·list.Post (λ κs s. now (s .1 .0))
-lister-list κs a x y s t p q = (one-answer (p .0) (q .0), one-answer (p .1 .0) (q .1 .0))
+pub lister-list : OneOutcome lister·list.Post (λ κs s. now (s .1 .0)) (λ κs s. now (s .0))
+lister-list κs a x y s t p q = (one-answer (p .0) (q .0), one-answer (p .1 .0) (q .1 .0), one-answer (p .1 .1 .1) (q .1 .1 .1))
 
-pub lister-room : OneOutcome lister·room.Post (λ κs s. now (s .1 .0))
-lister-room κs a x y s t p q = (one-answer (p .0) (q .0), one-answer (p .1 .0) (q .1 .0))
+pub lister-room : OneOutcome lister·room.Post (λ κs s. now (s .1 .0)) (λ κs s. now (s .0))
+lister-room κs a x y s t p q = (one-answer (p .0) (q .0), one-answer (p .1 .0) (q .1 .0), one-answer (p .1 .1 .1) (q .1 .1 .1))
 
 pub exports-controller-clock : OneAnswer exports·controller-clock.Post
 exports-controller-clock κs a x y s t p q = one-answer p q

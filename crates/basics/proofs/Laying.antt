@@ -1,15 +1,13 @@
 -- Laws of `laidAt` and `putAt`: layings one after the other. Assumes nothing.
-use Prim.Native.Nat.{ℕ, suc, _+_, _≤_, _<_}
+use Prim.Native.Nat.{ℕ, _+_, _≤_, _<_}
 use mathlib.Core.Path.{_≡_, refl, sym, ap, _∙_}
 use mathlib.Core.List.{List, [], _∷_, _++_, append-assoc, append-nil}
 use native.Mathlib.Nat.{add-zero, zero-add}
 use native.Mathlib.Numerals.{add-one}
 use native.Mathlib.Omega.{arith}
 use borrow.Author.Tests.{le-leb, lt-leb}
-use lib.Dec.{leb}
 use lib.ListN.{length, getD, set, take, drop, length-append, length-take, length-drop, take-append-drop}
 use lib.Seq.{take-at, drop-at, drop-drop, sets, sets-eq, take-suc}
-use Rattle.basics.specs.Choice.{if_then_else_}
 use Rattle.basics.specs.Lay.{laidAt, fitsAt, putAt, Laid}
 use Rattle.basics.proofs.Cases.{if-yes, if-no}
 

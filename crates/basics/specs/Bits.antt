@@ -1,5 +1,5 @@
 -- Bits and bytes of a number, as document 01 writes them: bit 0 is the lowest, and a pair of bytes has its high byte first
--- ("n means 256 x hi + lo", section "Records and what comes back").
+-- (section "Records and what comes back").
 use Prim.Native.Nat.{ℕ, _+_, _*_, _/_, _%_, _^_}
 use mathlib.Core.Bool.{Bool, true, false}
 use lib.Dec.{eqb}
@@ -17,9 +17,10 @@ num false = 0
 abbrev pub wordOf : ℕ → ℕ → ℕ
 wordOf high low = 256 * high + low
 
--- the two bytes of such a number
+-- the high byte of such a number
 abbrev pub highOf : ℕ → ℕ
 highOf x = x / 256
 
+-- and its low byte
 abbrev pub lowOf : ℕ → ℕ
 lowOf x = x % 256

@@ -1,6 +1,7 @@
--- The choice between two values by a test. Every definition of every crate that decides something decides it by this.
+-- The choice between two values by a test. Whatever document 01 makes hang on a condition, in any section, is decided by this.
 use mathlib.Core.Bool.{Bool, true, false}
 
+-- the first value where the test holds, the second where it does not
 infixr 5 if_then_else_
 unfoldable pub if_then_else_ : {A : Type 0} → Bool → A → A → A
 if true then x else y = x

@@ -1,4 +1,5 @@
--- Bytes laid at a place of a buffer. What every writer does to the buffer lent to it is said by these definitions.
+-- Bytes laid at a place of a buffer (document 01, "Records and what comes back" and "What the statements have to say"). What every
+-- writer does to the buffer lent to it is said by these definitions.
 use Prim.Native.Nat.{ℕ, _+_, _≤_}
 use mathlib.Core.Bool.{Bool}
 use mathlib.Core.List.{List, _++_}

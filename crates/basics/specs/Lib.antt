@@ -3,3 +3,4 @@ pub mod Bits
 pub mod Iterate
 pub mod Width
 pub mod Lay
+pub mod Count

@@ -1,7 +1,7 @@
--- The widths of the two chips' counters, and a counter that wraps at its width (document 01, "One character time" and "The multiplexer").
+-- The widths of the controller's counters, and a counter that wraps at its width (document 01, "One character time").
 use Prim.Native.Nat.{ℕ, _+_, _%_, _^_}
 use Rattle.basics.specs.declared.width.Width.{Width}
-use Rattle.basics.specs.declared.width.Width.the-variants.{Five, Seven, Eight, Fourteen, Sixteen}
+use Rattle.basics.specs.declared.width.Width.the-variants.{Five, Seven, Eight, Fourteen}
 
 -- how many bits a width is
 abbrev pub bitsOf : Width → ℕ
@@ -9,7 +9,6 @@ bitsOf Five = 5
 bitsOf Seven = 7
 bitsOf Eight = 8
 bitsOf Fourteen = 14
-bitsOf Sixteen = 16
 
 -- a counter of that width, moved on by a step: past its last value it starts again at 0
 abbrev pub countedOf : Width → ℕ → ℕ → ℕ

@@ -3,19 +3,18 @@ ghost use mathlib.Core.Path.{_≡_};
 ghost use Prim.Native.Nat.{_^_};
 ghost use Rattle.basics.specs.Width.{bitsOf, countedOf};
 
-// The widths of the chips' counters: line and field five bits, row and refresh seven, column eight, base fourteen, display address
-// sixteen. There is no other, so a counter cannot be given a width that the chips lack.
+// The widths of the controller's counters: line and field five bits, row seven, column eight, base fourteen. There is no other, so a
+// counter cannot be given a width that the chip lacks.
 pub enum Width {
     Five,
     Seven,
     Eight,
     Fourteen,
-    Sixteen,
 }
 
 impl Width {
     // How many values a counter of this width takes.
-    pub fn values(self) -> u32
+    fn values(self) -> u32
         ensures { λ r. ⌜ r ≡ 2 ^ bitsOf self ⌝ }
     {
         match self {
@@ -23,7 +22,6 @@ impl Width {
             Width::Seven => 128,
             Width::Eight => 256,
             Width::Fourteen => 16384,
-            Width::Sixteen => 65536,
         }
     }
 

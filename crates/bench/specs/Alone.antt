@@ -23,6 +23,7 @@ Same kind b hi lo value =
     stepOf b kind hi lo value
     ≡ withController b (aloneOf kind (b .controller) hi lo value .controller) (aloneOf kind (b .controller) hi lo value .answer)
 
+-- so it is for writes, clocks and strikes
 pub record AsOnTheBench (b : Bench) (hi lo value : ℕ) : Type 0 where
   pub write : Same 1 b hi lo value
   pub clock : Same 3 b hi lo value

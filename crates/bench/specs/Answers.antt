@@ -17,7 +17,7 @@ use Rattle.multiplexer.specs.declared.chip.Levelled.{Levelled}
 unfoldable pub readAnswerOf : ℕ → Reading → Answer
 readAnswerOf kind r = doneOf kind (num (r .driven)) (r .value) 0 0 0 0
 
--- kind 3's flags: 1 the picture fact, 2 display enable, 4 cursor, 8 HSYNC, 16 VSYNC
+-- kind 3's flags, each a bit: the picture fact the lowest, then the pins of display enable, cursor, HSYNC and VSYNC
 unfoldable pub flagsOf : Outputs → ℕ
 flagsOf o = num (o .picture) * 1 + num (o .display) * 2 + num (o .cursor) * 4 + num (o .hsync) * 8 + num (o .vsync) * 16
 

@@ -15,6 +15,7 @@ use Rattle.bench.specs.declared.step.Bench.{Bench}
 abbrev pub toldNumber : Bench → ℕ → ℕ → ℕ → ℕ → ℕ
 toldNumber b kind hi lo value = stepOf b kind hi lo value .answer .refusal
 
+-- every record on every bench
 pub record Refusals (b : Bench) (kind hi lo value : ℕ) : Type 0 where
   -- whatever its number, a refusal leaves both chips as they were
   pub still : (toldNumber b kind hi lo value ≡ 0 → ⊥) → stepOf b kind hi lo value .bench ≡ b

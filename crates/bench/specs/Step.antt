@@ -21,10 +21,11 @@ use Rattle.bench.specs.Answers.{readAnswerOf, timeAnswerOf, strikeAnswer
 use Rattle.bench.specs.declared.step.Bench.{Bench}
 use Rattle.bench.specs.declared.step.Stepped.{Stepped}
 
--- the bench with another controller, with another multiplexer, and an answer
+-- the bench with another controller, and an answer
 abbrev pub withController : Bench → Controller → Answer → Stepped
 withController b c a = record { bench = record { controller = c; multiplexer = b .multiplexer }; answer = a }
 
+-- the bench with another multiplexer, and an answer
 abbrev pub withMultiplexer : Bench → Multiplexer → Answer → Stepped
 withMultiplexer b m a = record { bench = record { controller = b .controller; multiplexer = m }; answer = a }
 

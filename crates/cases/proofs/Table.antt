@@ -1,18 +1,19 @@
 -- The table of settled cases, computed row by row. Assumes nothing.
 use Prim.Native.Nat.{ℕ}
 use mathlib.Core.Path.{_≡_, refl, ap₂}
-use mathlib.Core.List.{List, [], _∷_, map}
+use mathlib.Core.List.{List, [], _∷_}
 use lib.ListN.{getD}
 use Rattle.basics.specs.Choice.{if_then_else_}
+use Rattle.basics.specs.Count.{count}
 use Rattle.basics.specs.Iterate.{iterate}
 use Rattle.raster.specs.Scan.{lineEndOf, moveOf, movedOf, nextOf}
 use Rattle.raster.specs.Sync.{hsyncOf, vsyncStartsOf, vsyncWidthOf, vsyncOf, arriveOf}
 use Rattle.facts.specs.Facts.{pictureOf, addressOf, maOf, latchOf, blinkOf, cursorLineOf, cursorOf, factsOf}
 use Rattle.controller.specs.Chip.{arrivedOf, stepOf, clockOf, strikeOf}
 use Rattle.controller.specs.Pins.{pinOf, outputsOf}
-use Rattle.locator.specs.Cells.{count, cellsFrom, cellAddressOf, cellLatchOf, fitsOf, keep, theFit, fitOf}
+use Rattle.locator.specs.Cells.{cellsFrom, cellAddressOf, cellLatchOf, fitsOf, keep, theFit, fitOf}
 use Rattle.locator.specs.Locate.{namedOf, locateOf}
-use Rattle.cases.specs.Cases.{setting, A, tall, Case, reached, looked, seen, waits, strikes, cases, settled, Settled}
+use Rattle.cases.specs.Cases.{setting, A, tall, reached, looked, seen, waits, cases, settled, Settled}
 
 infixr 20 _then_
 _then_ : {x y : List ℕ} {xs ys : List (List ℕ)} → x ≡ y → xs ≡ ys → x ∷ xs ≡ y ∷ ys

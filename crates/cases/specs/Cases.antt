@@ -8,7 +8,7 @@ use Rattle.basics.specs.Bits.{num}
 use Rattle.raster.specs.declared.registers.Registers.{Registers}
 use Rattle.controller.specs.Chip.{arrivedOf, clockOf, strikeOf}
 use Rattle.controller.specs.Pins.{outputsOf}
-use Rattle.controller.specs.Frames.{frameTimes}
+use Rattle.frames.specs.Frames.{frameTimes}
 use Rattle.controller.specs.declared.chip.Controller.{Controller}
 use Rattle.locator.specs.Locate.{refusalOf, cellOf, locateOf}
 

@@ -15,7 +15,6 @@ use Rattle.raster.specs.Scan.{downOf, lineEndOf, moveOf, movedOf, nextOf}
 use Rattle.raster.specs.Sync.{hsyncOf, vsyncStartsOf, vsyncOf, arriveOf}
 use Rattle.raster.specs.declared.registers.Registers.{Registers}
 use Rattle.raster.specs.declared.scan.Scan.{Scan}
-use Rattle.raster.specs.declared.sync.Sync.{Sync}
 use Rattle.clocks.specs.declared.place.Place.{Place}
 use Rattle.clocks.specs.Walk.{steppedOf}
 use Rattle.clocks.specs.Skip.{Clear, Whole, hsyncColumns, hsyncLines, atColumn, atLine, columnsOn, linesOn}

@@ -53,7 +53,7 @@ hsyncLines r m count =
     else if eqb (reg r 2) 0 then reg r 3 % 16
     else reg r 3 % 16 - (reg r 0 - reg r 2) - 1
 
--- the scan at another column, and at another line
+-- the scan at another column
 abbrev pub atColumn : Scan → ℕ → Scan
 atColumn s column = record {
   column = column;
@@ -65,6 +65,7 @@ atColumn s column = record {
   adjusting = s .adjusting;
 }
 
+-- the scan at another line
 abbrev pub atLine : Scan → ℕ → Scan
 atLine s line = record {
   column = s .column;

@@ -21,17 +21,19 @@ fOf c = c .bits / 8 % 128
 abbrev pub pOf : Control → Bool
 pOf c = bit 10 (c .bits)
 
--- R0 and R1, the rate
+-- R0, the rate by address
 abbrev pub r0Of : Control → Bool
 r0Of c = bit 11 (c .bits)
 
+-- R1, the fast rate
 abbrev pub r1Of : Control → Bool
 r1Of c = bit 12 (c .bits)
 
--- M0 and M1, the memory size
+-- M0, the memory size's low bit
 abbrev pub m0Of : Control → Bool
 m0Of c = bit 13 (c .bits)
 
+-- M1, its high bit
 abbrev pub m1Of : Control → Bool
 m1Of c = bit 14 (c .bits)
 

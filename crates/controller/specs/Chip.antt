@@ -16,16 +16,19 @@ use Rattle.controller.specs.Writes.{writtenOf}
 use Rattle.controller.specs.declared.pen.Pen.{Pen}
 use Rattle.controller.specs.declared.chip.Controller.{Controller}
 
--- no strike yet, no fact left behind, no sync running
+-- no strike yet
 abbrev pub noPen : Pen
 noPen = record { latch = 0; inside = false; struck = false; full = false }
 
+-- nothing shown by a delayed pin yet: both facts false
 abbrev pub noFacts : Facts
 noFacts = record { picture = false; cursor = false }
 
+-- neither sync running
 abbrev pub noSync : Sync
 noSync = record { hsync = 0; vsync = 0 }
 
+-- every register and the address register zero, as power-on finds them
 abbrev pub noRegisters : Registers
 noRegisters = record { held = replicate 16 0; named = 0 }
 
@@ -78,10 +81,11 @@ strikeOf c = record {
   pen = record { latch = latchOf (c .regs) (c .scan); inside = pictureOf (c .regs) (c .scan); struck = true; full = true };
 }
 
--- the part of the controller that walks, and the controller after a walk
+-- the part of the controller that walks: its scan and its syncs
 abbrev pub placeOf : Controller → Place
 placeOf c = record { scan = c .scan; sync = c .sync }
 
+-- the controller after a walk: where it came to, and the facts of the place that it left last
 unfoldable pub walkedOf : Controller → Walk → Controller
 walkedOf c w = record {
   regs = c .regs;

@@ -1,6 +1,6 @@
 -- Demand 3, proved. Assumes nothing.
 use Prim.Native.Nat.{ℕ, zero, suc, _<_}
-use mathlib.Core.Path.{_≡_, refl, ap, ap₂, sym, _∙_}
+use mathlib.Core.Path.{_≡_, refl, ap, ap₂, _∙_}
 use mathlib.Core.Bool.{Bool, true, false, not, _&&_, and-eq-true-iff}
 use mathlib.Core.List.{List, [], _∷_, _++_, map}
 use mathlib.Core.Logic.{_⊎_, inl, inr, ⊎-elim}
@@ -9,24 +9,22 @@ use lib.Dec.{eqb, ltb}
 use borrow.Author.Tests.{eqb-true, eqb-false, eq-eqb, ltb-true, not-true}
 use Rattle.basics.specs.Choice.{if_then_else_}
 use Rattle.basics.specs.Iterate.{iterate}
-use Rattle.raster.specs.Registers.{reg, startOf, byRowsOf}
+use Rattle.raster.specs.Registers.{reg}
 use Rattle.raster.specs.declared.registers.Registers.{Registers}
 use Rattle.raster.specs.declared.scan.Scan.{Scan}
-use Rattle.facts.specs.Facts.{pictureOf, addressOf, maOf, latchOf}
+use Rattle.facts.specs.Facts.{pictureOf, maOf, latchOf}
 use Rattle.controller.specs.Chip.{arrivedOf, freshOf, resetOf, stepOf, clockOf, strikeOf}
-use Rattle.controller.specs.Calls.{Call, afterCalls, Act, clocks, strikes, afterAct, afterActs}
-use Rattle.controller.specs.Widths.{RegistersFit}
-use Rattle.controller.specs.Frames.{Region, Placed, Frames}
-use Rattle.controller.specs.declared.pen.Pen.{Pen}
+use Rattle.frames.specs.Calls.{afterCalls, Act, clocks, strikes, afterAct, afterActs}
+use Rattle.frames.specs.Widths.{RegistersFit}
+use Rattle.frames.specs.Frames.{Region, Placed}
 use Rattle.controller.specs.declared.chip.Controller.{Controller}
 use Rattle.frames.proofs.Frames.{frames}
 use Rattle.frames.proofs.Widths.{reached-fits}
-use Rattle.locator.specs.Cells.{IsCell, cellAt, rowBaseOf, cellAddressOf, cellLatchOf, fitsOf, fitOf}
-use Rattle.locator.specs.Locate.{namedOf, locateOf}
-use Rattle.locator.specs.Demand.{struckAt, answerTo, Rival, Demand3}
+use Rattle.locator.specs.Cells.{IsCell, cellAt, cellAddressOf, cellLatchOf, fitsOf, fitOf}
+use Rattle.locator.specs.Locate.{refusalOf, cellOf, namedOf, strikeFoundOf, locateOf}
+use Rattle.demand.specs.Demand.{struckAt, answerTo, Demand3, Demand3Reached}
 use Rattle.locator.specs.declared.cells.Cell.{Cell}
-use Rattle.locator.specs.declared.answer.Located.{Located}
-use Rattle.locator.specs.declared.answer.Located.the-variants.{At, Unstruck, Outside, Several}
+use Rattle.locator.specs.declared.answer.Located.the-variants.{At, Outside, Several}
 use Rattle.demand.proofs.Listed.{found, several}
 
 -- a strike in the picture latches what a strike in the cell of its row and column would
@@ -70,17 +68,9 @@ acts-append [] m c = refl
 acts-append (a ∷ l) m c = acts-append l m (afterAct a c)
 
 -- what the locator says goes by registers and pen alone
-saidOf : Registers → Pen → Located
-saidOf r p = if p .struck then (if p .inside then namedOf (fitOf r (p .latch)) else Outside) else Unstruck
-
-said : (c : Controller) → locateOf c ≡ saidOf (c .regs) (c .pen)
-unfolding locateOf saidOf
-said c = refl
-
 after-clocks : (more : List ℕ) (c : Controller) → locateOf (afterActs (map clocks more) c) ≡ locateOf c
-after-clocks more c =
-    let k = clocks-keep more c in
-    said (afterActs (map clocks more) c) ∙ ap₂ saidOf (k .0) (k .1) ∙ sym (said c)
+unfolding locateOf
+after-clocks more c = let k = clocks-keep more c in ap₂ strikeFoundOf (k .0) (k .1)
 
 -- a list of clocks and strikes has no strike, or a last one
 split-last : (l : List Act)
@@ -122,27 +112,30 @@ module _ (c : Controller) (w : RegistersFit (c .regs)) where
   demand3 = record {
     frames = frames c w;
     last-strike = split-last;
-    unstruck = λ more. after-clocks more (resetOf c);
+    unstruck = λ more. ap refusalOf (after-clocks more (resetOf c));
     named = λ before more e u.
         let s = struckAt c before in
         let p = picture-cell r s (frames c w .placed before) e in
+        let q : answerTo c before more ≡ At (cellAt (s .row) (s .column)) =
         in-picture before more e
         ∙ ap namedOf
         (found r narrow (fitsOf r (latchOf r s)) (cellAt (s .row) (s .column)) (p .0) (eq-eqb _ _ (p .1))
         (λ d j k.
         ⊎-elim (λ (q : d ≡ cellAt (s .row) (s .column)). q)
         (λ n. absurd (u d (record { cell = j; latch = eqb-true (cellLatchOf r d) (latchOf r s) k; other = n })))
-        (same-or-other d (cellAt (s .row) (s .column)))));
+        (same-or-other d (cellAt (s .row) (s .column))))) in
+        (ap refusalOf q, ap cellOf q);
     shared = λ before more e d v.
         let s = struckAt c before in
         let p = picture-cell r s (frames c w .placed before) e in
+        let q : answerTo c before more ≡ Several =
         in-picture before more e
         ∙ ap namedOf
         (several r narrow (fitsOf r (latchOf r s)) (cellAt (s .row) (s .column)) (p .0) (eq-eqb _ _ (p .1))
-        d (v .cell) (eq-eqb _ _ (v .latch)) (v .other));
-    outside = λ before more e. struck before more ∙ rw e;
+        d (v .cell) (eq-eqb _ _ (v .latch)) (v .other)) in
+        ap refusalOf q;
+    outside = λ before more e. let q : answerTo c before more ≡ Outside = struck before more ∙ rw e in ap refusalOf q;
   }
 
--- so it holds of every controller that calls can reach from power-on, whatever was written to its registers
-pub demand3-reached : (l : List Call) → Demand3 (afterCalls l freshOf)
+pub demand3-reached : Demand3Reached
 demand3-reached l = demand3 (afterCalls l freshOf) (reached-fits l .regs)

@@ -1,6 +1,6 @@
 -- The list of cells has just the picture's cells, each once; so of those that pass any test, the fit tells one from several.
 -- Assumes nothing.
-use Prim.Native.Nat.{ℕ, zero, suc, _+_, _*_, _≤_, _<_, min}
+use Prim.Native.Nat.{ℕ, zero, suc, _+_, _*_, _≤_, _<_}
 use mathlib.Core.Path.{_≡_, refl, ap, sym, _∙_}
 use mathlib.Core.Bool.{Bool, true, false}
 use mathlib.Core.List.{List, [], _∷_, _++_, map, List·Memᴰ, List·Memᴰ·head, List·Memᴰ·tail, List·Memᴰ·not-nil, List·Memᴰ·cases-cons, List·Memᴰ·eq-of-singleton, List·Memᴰ·append-cases, Memᴰ·append-left, Memᴰ·append-right, Memᴰ·map, Memᴰ·of-map, Memᴰ·cast}
@@ -8,9 +8,10 @@ use mathlib.Core.Logic.{⊎-elim}
 use native.Mathlib.Nat.{eq-or-lt-of-le}
 use native.Mathlib.Omega.{arith}
 use Rattle.basics.specs.Choice.{if_then_else_}
+use Rattle.basics.specs.Count.{count}
 use Rattle.raster.specs.Registers.{reg}
 use Rattle.raster.specs.declared.registers.Registers.{Registers}
-use Rattle.locator.specs.Cells.{IsCell, columnsOf, rowsOf, count, cellAt, rowCells, cellsFrom, cellsOf, keep, theFit}
+use Rattle.locator.specs.Cells.{IsCell, columnsOf, rowsOf, cellAt, rowCells, cellsFrom, cellsOf, keep, theFit}
 use Rattle.locator.specs.declared.cells.Cell.{Cell}
 use Rattle.locator.specs.declared.fit.Fit.the-variants.{One, Many}
 

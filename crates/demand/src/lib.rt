@@ -1,1 +1,1 @@
-// Demand 3 proved (proofs/Demand.antt), and no code. Its statement stands in locator/specs/Demand.antt.
+// Demand 3, and no code: its statement stands in specs/, its proof in proofs/.

@@ -11,13 +11,15 @@ use Rattle.display.specs.declared.modes.Mode.{Mode}
 abbrev pub startOf : Display
 startOf = record { b = 0; x = 0; y = 0 }
 
--- the counter with another address, with another X divider, with another Y divider
+-- the counter with another address
 abbrev pub withB : ℕ → Display → Display
 withB b d = record { b = b; x = d .x; y = d .y }
 
+-- with another X divider
 abbrev pub withX : ℕ → Display → Display
 withX x d = record { b = d .b; x = x; y = d .y }
 
+-- with another Y divider
 abbrev pub withY : ℕ → Display → Display
 withY y d = record { b = d .b; x = d .x; y = y }
 

@@ -6,9 +6,11 @@ use mathlib.Core.List.{List, [], _∷_}
 use lib.ListN.{getD}
 use Rattle.display.specs.declared.modes.Mode.{Mode}
 
+-- the three numbers of a mode: X, Y and top
 abbrev pub three : ℕ → ℕ → ℕ → List ℕ
 three x y top = x ∷ y ∷ top ∷ []
 
+-- the table, from 000 to 111
 abbrev pub modes : List (List ℕ)
 modes =
     three 1 12 4
@@ -25,5 +27,6 @@ modes =
 abbrev pub entryAt : ℕ → List ℕ
 entryAt v = getD modes (v % 8) []
 
+-- the mode that a number names, its three numbers by name
 abbrev pub modeAt : ℕ → Mode
 modeAt v = record { x = getD (entryAt v) 0 0; y = getD (entryAt v) 1 0; top = getD (entryAt v) 2 0 }

@@ -65,7 +65,7 @@ impl Display {
     }
 
     // One display fetch.
-    pub fn fetch(mut self, mode: Mode) -> Display
+    fn fetch(mut self, mode: Mode) -> Display
         ensures { λ r. ⌜ r ≡ fetchOf mode self ⌝ }
     {
         if self.b % 16 < 15 {

@@ -1,5 +1,5 @@
--- The answers of the chips as plain numbers, for programs in other languages. What they say is defined with the chips; here it is only
--- laid out.
+-- The answers of the chips as plain numbers, for programs in other languages (document 01, the table of refusals and "The
+-- multiplexer"). What they say is defined with the chips; here it is only laid out.
 use Prim.Native.Nat.{ℕ}
 use Rattle.locator.specs.Locate.{refusalOf, cellOf}
 use Rattle.locator.specs.declared.answer.Located.{Located}
@@ -13,10 +13,11 @@ use Rattle.exports.specs.declared.Counted.{Counted}
 abbrev pub foundOf : Located → Found
 foundOf q = record { refusal = refusalOf q; row = cellOf q .row; column = cellOf q .column }
 
--- a display counter by its three numbers, and back
+-- a display counter by its three numbers
 abbrev pub displayAt : Counted → Display
 displayAt k = record { b = k .b; x = k .x; y = k .y }
 
+-- and back
 abbrev pub counterOf : Display → Counted
 counterOf d = record { b = d .b; x = d .x; y = d .y }
 

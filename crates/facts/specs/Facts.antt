@@ -1,7 +1,7 @@
 -- What is true of the character that the scan is at (document 01, "One character time"): picture, MA, cursor, and the latch that a
 -- pen strike there leaves.
-use Prim.Native.Nat.{ℕ, _+_, _*_, _%_, _/_}
-use mathlib.Core.Bool.{Bool, true, false, not, _&&_}
+use Prim.Native.Nat.{ℕ, _+_, _%_}
+use mathlib.Core.Bool.{Bool, not, _&&_}
 use lib.Dec.{eqb, ltb, leb}
 use Rattle.basics.specs.Choice.{if_then_else_}
 use Rattle.basics.specs.Bits.{bit, wordOf, highOf, lowOf}
@@ -25,9 +25,13 @@ addressOf r start base row column =
 unfoldable pub maOf : Registers → Scan → ℕ
 maOf r s = addressOf r (s .start) (s .base) (s .row) (s .column)
 
--- the latch of a strike at this character: two on from MA
+-- what a strike latches where MA is an address: two on from it
+abbrev pub latchedOf : ℕ → ℕ
+latchedOf address = (address + 2) % 16384
+
+-- the latch of a strike at this character
 unfoldable pub latchOf : Registers → Scan → ℕ
-latchOf r s = (maOf r s + 2) % 16384
+latchOf r s = latchedOf (maOf r s)
 
 -- blink, by R10 bits 6 and 5: 00 always shows, 01 never, 10 while field bit 3 is 0, 11 while field bit 4 is 0
 unfoldable pub blinkOf : ℕ → ℕ → Bool

@@ -6,5 +6,6 @@ pub use facts::Facts;
 pub use facts::address;
 pub use facts::cursor;
 pub use facts::latch;
+pub use facts::latched;
 pub use facts::ma;
 pub use facts::picture;

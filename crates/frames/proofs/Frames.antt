@@ -1,6 +1,6 @@
 -- The frame theorem. A place's number in its frame is a closed form, one character time adds one to it or starts it again at 0, so t
 -- times after a reset it is t mod F. Assumes nothing.
-use Prim.Native.Nat.{ℕ, zero, suc, _+_, _*_, _%_, _/_, _≤_, _<_}
+use Prim.Native.Nat.{ℕ, zero, suc, _+_, _*_, _%_, _/_, _<_}
 use mathlib.Core.Path.{_≡_, refl, ap, sym, _∙_}
 use mathlib.Core.Bool.{Bool, true, false, false≢true}
 use mathlib.Core.List.{List, [], _∷_}
@@ -12,14 +12,14 @@ use lib.Arith.{digits-lt}
 use borrow.Author.Tests.{eqb-true, eq-eqb, ne-eqb}
 use Rattle.basics.specs.Iterate.{iterate}
 use Rattle.basics.proofs.Iterating.{iterate-add}
-use Rattle.raster.specs.Registers.{reg, startOf}
+use Rattle.raster.specs.Registers.{reg}
 use Rattle.raster.specs.Scan.{Move, topOf, moveOf, movedOf, nextOf}
 use Rattle.raster.specs.declared.registers.Registers.{Registers}
 use Rattle.raster.specs.declared.scan.Scan.{Scan}
 use Rattle.controller.specs.Chip.{arrivedOf, resetOf, stepOf, clockOf, strikeOf}
-use Rattle.controller.specs.Calls.{Act, clocks, strikes, afterAct, afterActs, timesOf}
-use Rattle.controller.specs.Widths.{RegistersFit, Fits}
-use Rattle.controller.specs.Frames.{frameTimes, beginsFrame, beginsAt, Region, Placed, Frames}
+use Rattle.frames.specs.Calls.{Act, clocks, strikes, afterAct, afterActs, timesOf}
+use Rattle.frames.specs.Widths.{RegistersFit}
+use Rattle.frames.specs.Frames.{frameTimes, beginsFrame, beginsAt, Region, Placed, Frames}
 use Rattle.controller.specs.declared.chip.Controller.{Controller}
 use Rattle.frames.proofs.Moves.{Why, in-line, line-down, row-down, to-adjust, to-frame, adjust-down, adjust-frame, why}
 

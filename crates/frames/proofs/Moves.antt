@@ -1,6 +1,6 @@
 -- Which move a character time makes, with the reason as facts. Assumes nothing.
 use Prim.Native.Nat.{_+_, _%_}
-use mathlib.Core.Path.{_≡_, refl, ap, sym, _∙_}
+use mathlib.Core.Path.{_≡_, refl}
 use mathlib.Core.Bool.{Bool, true, false}
 use lib.Dec.{eqb}
 use borrow.Author.Tests.{eqb-true, eqb-false}

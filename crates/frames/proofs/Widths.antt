@@ -1,19 +1,18 @@
 -- Every controller that calls can reach from power-on stays within its widths. Assumes nothing.
-use Prim.Native.Nat.{ℕ, zero, suc, _+_, _%_, _/_, _^_, _<_, _≤_}
-use mathlib.Core.Path.{_≡_, refl, sym, ap, _∙_}
+use Prim.Native.Nat.{ℕ, zero, suc, _^_, _<_, _≤_}
+use mathlib.Core.Path.{_≡_, refl}
 use mathlib.Core.Bool.{Bool, true, false}
 use mathlib.Core.List.{List, [], _∷_}
 use native.Mathlib.Omega.{arith}
 use native.Mathlib.Nat.{mod-lt}
 use lib.Dec.{eqb, ltb}
-use lib.ListN.{length, getD, set, length-set, replicate, getD-replicate}
+use lib.ListN.{getD, set, length-set, getD-replicate}
 use lib.Pow.{pow-pos}
 use lib.Seq.{getD-set-same, getD-set-other}
 use borrow.Author.Tests.{ltb-true, eqb-true, eqb-false}
-use Rattle.basics.specs.Choice.{if_then_else_}
 use Rattle.basics.specs.Iterate.{iterate}
 use Rattle.basics.proofs.Cases.{if-both}
-use Rattle.raster.specs.Registers.{reg, widths, startOf}
+use Rattle.raster.specs.Registers.{widths, startOf}
 use Rattle.raster.specs.Scan.{Move, along, down, nextRow, toAdjust, newFrame, topOf, movedOf, nextOf, moveOf}
 use Rattle.raster.specs.Sync.{hsyncOf, vsyncWidthOf, vsyncOf, arriveOf}
 use Rattle.facts.specs.Facts.{latchOf}
@@ -24,8 +23,8 @@ use Rattle.controller.specs.Writes.{keptOf, addressedOf, storedOf, writtenOf}
 use Rattle.controller.specs.Chip.{noSync, noRegisters, arrivedOf, freshOf, resetOf, writeOf, stepOf, clockOf, strikeOf}
 use Rattle.controller.specs.Reads.{emptiedOf, afterReadOf, registerReadOf, statusReadOf, readOf}
 use Rattle.controller.specs.declared.reads.Reading.{Reading}
-use Rattle.controller.specs.Calls.{Call, write, read, clock, strike, reset, afterCall, afterCalls}
-use Rattle.controller.specs.Widths.{RegistersFit, ScanFits, SyncFits, Fits}
+use Rattle.frames.specs.Calls.{Call, write, read, clock, strike, reset, afterCall, afterCalls}
+use Rattle.frames.specs.Widths.{RegistersFit, ScanFits, SyncFits, Fits}
 use Rattle.controller.specs.declared.chip.Controller.{Controller}
 
 -- registers: all zero they fit, and a write leaves them so

@@ -1,6 +1,6 @@
 -- The fit of a list of cells, taken apart as the code meets them: row by row, and in each row the one column that can fit.
 -- Assumes nothing.
-use Prim.Native.Nat.{ℕ, zero, suc, _+_, _*_, _-_, _%_, _≤_, _<_}
+use Prim.Native.Nat.{ℕ, zero, suc, _+_, _%_, _≤_, _<_}
 use mathlib.Core.Path.{_≡_, refl, ap, sym, _∙_}
 use mathlib.Core.Bool.{Bool, true, false}
 use mathlib.Core.List.{List, [], _∷_, _++_, map, append-assoc, append-nil}
@@ -9,11 +9,12 @@ use native.Mathlib.Nat.{add-zero, add-suc, suc-add, zero-add, eq-or-lt-of-le}
 use native.Mathlib.Numerals.{add-one}
 use native.Mathlib.Omega.{arith}
 use Rattle.basics.specs.Choice.{if_then_else_}
+use Rattle.basics.specs.Count.{count}
 use Rattle.basics.specs.Bits.{wordOf, highOf, lowOf}
-use Rattle.raster.specs.Registers.{reg, startOf, byRowsOf}
+use Rattle.raster.specs.Registers.{startOf, byRowsOf}
 use Rattle.raster.specs.declared.registers.Registers.{Registers}
 use Rattle.facts.specs.Facts.{addressOf}
-use Rattle.locator.specs.Cells.{count, cellAt, rowCells, rowBaseOf, cellsFrom, cellAddressOf, cellLatchOf, keep, theFit, joinedOf, fromBaseOf, fromLowOf}
+use Rattle.locator.specs.Cells.{cellAt, rowCells, rowBaseOf, cellsFrom, cellAddressOf, cellLatchOf, keep, theFit, joinedOf, fromBaseOf, fromLowOf}
 use Rattle.locator.specs.declared.cells.Cell.{Cell}
 use Rattle.locator.specs.declared.fit.Fit.the-variants.{Free}
 

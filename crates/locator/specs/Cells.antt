@@ -1,12 +1,13 @@
 -- The picture's cells, and which of them a latch fits (document 01, "The locator"). Cells are a list, row by row; nothing here searches.
 use Prim.Native.Nat.{ℕ, zero, suc, _+_, _*_, _-_, _%_, _<_, _≤_, min}
-use mathlib.Core.Bool.{Bool, true, false}
+use mathlib.Core.Bool.{Bool}
 use mathlib.Core.List.{List, [], _∷_, _++_, map}
 use lib.Dec.{eqb}
 use Rattle.basics.specs.Choice.{if_then_else_}
+use Rattle.basics.specs.Count.{count}
 use Rattle.raster.specs.Registers.{reg, startOf}
 use Rattle.raster.specs.declared.registers.Registers.{Registers}
-use Rattle.facts.specs.Facts.{addressOf}
+use Rattle.facts.specs.Facts.{addressOf, latchedOf}
 use Rattle.locator.specs.declared.cells.Cell.{Cell}
 use Rattle.locator.specs.declared.fit.Fit.{Fit}
 use Rattle.locator.specs.declared.fit.Fit.the-variants.{Free, One, Many}
@@ -18,29 +19,28 @@ pub record IsCell (r : Registers) (c : Cell) : Type 0 where
   pub column< : c .column < reg r 1
   pub column≤ : c .column ≤ reg r 0
 
--- so there are this many columns, and this many rows
+-- so there are this many columns
 abbrev pub columnsOf : Registers → ℕ
 columnsOf r = min (reg r 1) (reg r 0 + 1)
 
+-- and this many rows
 abbrev pub rowsOf : Registers → ℕ
 rowsOf r = min (reg r 6) (reg r 4 + 1)
 
--- n numbers from a on
-unfoldable pub count : ℕ → ℕ → List ℕ
-count a zero = []
-count a (suc n) = a ∷ count (suc a) n
-
+-- the cell at a row and a column
 abbrev pub cellAt : ℕ → ℕ → Cell
 cellAt row column = record { row = row; column = column }
 
--- the cells of one row, of n rows from a row on, and of the whole picture
+-- the cells of one row, from its first column on
 abbrev pub rowCells : Registers → ℕ → List Cell
 rowCells r row = map (cellAt row) (count 0 (columnsOf r))
 
+-- the cells of n rows from a row on
 unfoldable pub cellsFrom : Registers → ℕ → ℕ → List Cell
 cellsFrom r row zero = []
 cellsFrom r row (suc n) = rowCells r row ++ cellsFrom r (suc row) n
 
+-- the cells of the whole picture
 abbrev pub cellsOf : Registers → List Cell
 cellsOf r = cellsFrom r 0 (rowsOf r)
 
@@ -54,7 +54,7 @@ cellAddressOf r c = addressOf r (startOf r) (rowBaseOf r (c .row)) (c .row) (c .
 
 -- the latch that a strike in the cell leaves
 unfoldable pub cellLatchOf : Registers → Cell → ℕ
-cellLatchOf r c = (cellAddressOf r c + 2) % 16384
+cellLatchOf r c = latchedOf (cellAddressOf r c)
 
 -- a cell fits a latch when a strike in it would leave that latch
 unfoldable pub fitsOf : Registers → ℕ → Cell → Bool
@@ -87,9 +87,10 @@ fitOf r latch = theFit (keep (fitsOf r latch) (cellsOf r))
 unfoldable pub rowFitOf : Registers → ℕ → ℕ → Fit
 rowFitOf r latch row = theFit (keep (fitsOf r latch) (rowCells r row))
 
--- the column at which a row reaches a latch: by counting on from its base, and where the column moves the low byte alone
+-- the column at which a row reaches a latch, by counting on from its base
 abbrev pub fromBaseOf : ℕ → ℕ → ℕ
 fromBaseOf base latch = (latch + 32766 - base % 16384) % 16384
 
+-- the same where the column moves the low byte alone
 abbrev pub fromLowOf : ℕ → ℕ → ℕ
 fromLowOf start latch = (latch + 510 - start % 256) % 256

@@ -1,3 +1,2 @@
 pub mod Cells
 pub mod Locate
-pub mod Demand

@@ -1,7 +1,8 @@
 -- The locator's answer (document 01, "The locator" and the table of refusals).
 use Prim.Native.Nat.{ℕ}
-use mathlib.Core.Bool.{Bool}
 use Rattle.basics.specs.Choice.{if_then_else_}
+use Rattle.raster.specs.declared.registers.Registers.{Registers}
+use Rattle.controller.specs.declared.pen.Pen.{Pen}
 use Rattle.controller.specs.declared.chip.Controller.{Controller}
 use Rattle.locator.specs.Cells.{cellAt, fitOf}
 use Rattle.locator.specs.declared.cells.Cell.{Cell}
@@ -33,7 +34,10 @@ namedOf Free = Nowhere
 namedOf (One c) = At c
 namedOf Many = Several
 
--- where the last strike was: refused in the order 5, 6, 7, 8, or its cell
+-- where the last strike was, by the registers and the pen: refused in the order 5, 6, 7, 8, or its cell
+abbrev pub strikeFoundOf : Registers → Pen → Located
+strikeFoundOf r pen = if pen .struck then (if pen .inside then namedOf (fitOf r (pen .latch)) else Outside) else Unstruck
+
+-- the same of a controller: nothing else of it is asked
 unfoldable pub locateOf : Controller → Located
-locateOf c =
-    if c .pen .struck then (if c .pen .inside then namedOf (fitOf (c .regs) (c .pen .latch)) else Outside) else Unstruck
+locateOf c = strikeFoundOf (c .regs) (c .pen)

@@ -2,8 +2,8 @@
 ghost use mathlib.Core.Path.{_≡_};
 ghost use Prim.Native.Nat.{_+_, _*_, _%_, min};
 ghost use Rattle.locator.specs.Cells.{columnsOf, rowsOf, rowBaseOf, cellLatchOf};
-use basics::Width;
 use facts::address;
+use facts::latched;
 use raster::Registers;
 
 #[repr(C)]
@@ -54,5 +54,5 @@ pub(crate) fn cell_latch(r: Registers, c: Cell) -> u16
 {
     let base = row_base(r, c.row);
     let here = address(r, r.start(), base, c.row, c.column);
-    Width::Fourteen.counted(here, 2)
+    latched(here)
 }

@@ -11,6 +11,7 @@ use Rattle.multiplexer.specs.declared.cells.Cell.{Cell}
 unfoldable pub sideOf : Control → ℕ
 sideOf c = if m1Of c then 256 else if m0Of c then 128 else 64
 
+-- what the code tells of a side: which it is, and that it can be divided by and fits a cell's bytes
 pub record Side (c : Control) (r : ℕ) : Type 0 where
   pub is : r ≡ sideOf c
   pub least : 1 ≤ r

@@ -24,17 +24,19 @@ use Rattle.multiplexer.specs.declared.chip.Levelled.{Levelled}
 abbrev pub freshOf : Multiplexer
 freshOf = record { control = clearOf; display = counter.startOf; refresh = 0; hs = true }
 
--- the multiplexer with other control bits, with another display counter
+-- the multiplexer with other control bits
 abbrev pub withControl : Control → Multiplexer → Multiplexer
 withControl c m = record { control = c; display = m .display; refresh = m .refresh; hs = m .hs }
 
+-- with another display counter
 abbrev pub withDisplay : Display → Multiplexer → Multiplexer
 withDisplay d m = record { control = m .control; display = d; refresh = m .refresh; hs = m .hs }
 
--- Kind 6. The cycle is judged with the control bits from before it; its own write counts only for the next.
+-- a multiplexer and what its bus cycle showed
 abbrev pub bused : Multiplexer → Cycle → Bused
 bused m y = record { multiplexer = m; cycle = y }
 
+-- Kind 6. The cycle is judged with the control bits from before it; its own write counts only for the next.
 unfoldable pub busOf : Multiplexer → ℕ → Bool → Bused
 busOf m a read = bused (withControl (afterOf (m .control) a read) m) (cycleOf (m .control) a read)
 

@@ -9,16 +9,19 @@ use Rattle.display.specs.declared.counter.Display.{Display}
 use Rattle.display.specs.Modes.{modeAt}
 use Rattle.display.specs.Edges.{fallOf, preloadOf}
 
--- the numbers by which an answer tells an edge
+-- The numbers by which an answer tells an edge. HS kept its level
 abbrev pub noEdge : ℕ
 noEdge = 0
 
+-- HS fell
 abbrev pub fall : ℕ
 fall = 1
 
+-- HS rose, DA0 low
 abbrev pub rise : ℕ
 rise = 2
 
+-- HS rose, DA0 high
 abbrev pub preload : ℕ
 preload = 3
 

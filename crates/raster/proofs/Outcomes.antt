@@ -1,11 +1,8 @@
 -- The end of a line by three outcomes, as the code takes it, in place of the definition's six. Assumes nothing.
-use Prim.Native.Nat.{ℕ}
-use mathlib.Core.Path.{_≡_, refl, ap, sym, _∙_}
+use mathlib.Core.Path.{_≡_, refl, sym, _∙_}
 use mathlib.Core.Bool.{Bool, true, false, not, _&&_}
 use lib.Dec.{eqb}
 use Rattle.basics.specs.Choice.{if_then_else_}
-use Rattle.basics.specs.Width.{countedOf}
-use Rattle.basics.specs.declared.width.Width.the-variants.{Five}
 use Rattle.raster.specs.Registers.{reg}
 use Rattle.raster.specs.Scan.{Move, along, down, nextRow, toAdjust, newFrame, rowOf, downOf, alongOf, movedOf, lineEndOf, moveOf, nextOf, endsFrameOf}
 use Rattle.raster.specs.declared.registers.Registers.{Registers}

@@ -18,12 +18,14 @@ widths = 8 ∷ 8 ∷ 8 ∷ 8 ∷ 7 ∷ 5 ∷ 7 ∷ 7 ∷ 8 ∷ 5 ∷ 7 ∷ 5 ∷
 abbrev pub startOf : Registers → ℕ
 startOf r = wordOf (reg r 12) (reg r 13)
 
--- R8 bit 2 addresses the picture by row and column; bit 4 delays the display enable pin, bit 5 the cursor pin
+-- R8 bit 2 addresses the picture by row and column
 abbrev pub byRowsOf : Registers → Bool
 byRowsOf r = bit 2 (reg r 8)
 
+-- bit 4 delays the display enable pin
 abbrev pub displayDelayedOf : Registers → Bool
 displayDelayedOf r = bit 4 (reg r 8)
 
+-- bit 5 delays the cursor pin
 abbrev pub cursorDelayedOf : Registers → Bool
 cursorDelayedOf r = bit 5 (reg r 8)

@@ -1,6 +1,6 @@
 -- Where the scan is, and how one character time moves it (document 01, "One character time"). Every counter wraps at its width, and
 -- every end is found by equality: a counter that has passed its end runs on until it wraps.
-use Prim.Native.Nat.{ℕ, _+_, _%_}
+use Prim.Native.Nat.{ℕ}
 use mathlib.Core.Bool.{Bool, true, false}
 use lib.Dec.{eqb}
 use Rattle.basics.specs.Choice.{if_then_else_}

@@ -1,7 +1,7 @@
 -- The two sync counts, as an arrival at a character changes them (document 01, "One character time"). A sync pin
 -- shows whether its count still runs; where a new pulse is due before the old one is over, the count is loaded anew.
 use Prim.Native.Nat.{ℕ, _-_, _%_, _/_}
-use mathlib.Core.Bool.{Bool, true, false, not, _&&_}
+use mathlib.Core.Bool.{Bool, not, _&&_}
 use lib.Dec.{eqb}
 use Rattle.basics.specs.Choice.{if_then_else_}
 use Rattle.raster.specs.Registers.{reg}

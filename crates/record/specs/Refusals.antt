@@ -10,6 +10,7 @@ use Rattle.record.specs.Decode.{allowedOf, decodeOf, numberOf}
 abbrev pub UnknownKind : ℕ → Type 0
 UnknownKind kind = (kind ≡ 0) ⊎ (9 < kind)
 
+-- and those that it has
 abbrev pub KnownKind : ℕ → Type 0
 KnownKind kind = (1 ≤ kind) × (kind ≤ 9)
 

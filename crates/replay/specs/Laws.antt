@@ -24,6 +24,7 @@ pub record Sound (batch : List ℕ) (room : ℕ) (r : Run) : Type 0 where
 abbrev pub andThen : Run → List ℕ → ℕ → Run
 andThen r more room = onto (r .taken) (r .answers) (runOf more (room - 8 * length (r .answers)) (r .bench))
 
+-- every run on a bench into some room
 pub record Runs (b : Bench) (room : ℕ) : Type 0 where
   pub sound : (batch : List ℕ) → Sound batch room (runOf batch room b)
   -- a batch whose first part is taken whole is replayed part by part

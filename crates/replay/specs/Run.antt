@@ -62,9 +62,11 @@ abbrev pub endedOf : Bench → ℕ → ℕ → ℕ → Replayed
 endedOf b ending taken answers =
     record { controller = b .controller; multiplexer = b .multiplexer; ending = ending; taken = taken; answers = answers }
 
+-- the same of a run
 abbrev pub returnedOf : Run → Replayed
 returnedOf r = endedOf (r .bench) (r .ending) (r .taken) (length (r .answers))
 
+-- what a replay of a batch into an output returns, on two chips
 unfoldable pub replayOf : List ℕ → List ℕ → Controller → Multiplexer → Replayed
 replayOf batch out c m = returnedOf (ranOf batch out c m)
 

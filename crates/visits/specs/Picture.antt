@@ -4,6 +4,7 @@ use Prim.Native.Nat.{ℕ, zero, suc, _+_}
 use mathlib.Core.Bool.{true, false}
 use mathlib.Core.List.{List, [], _∷_, _++_}
 use mathlib.Core.Path.{_≡_}
+use Rattle.basics.specs.Count.{count}
 use Rattle.multiplexer.specs.Chip.{freshOf, withControl, fetchesOf, levelsOf}
 use Rattle.multiplexer.specs.declared.chip.Multiplexer.{Multiplexer}
 
@@ -23,12 +24,7 @@ afterLine n m = levelsOf (levelsOf (fetchesOf m n) false false .multiplexer) tru
 -- so many lines of n bytes, each by its addresses
 unfoldable pub lines : ℕ → ℕ → Multiplexer → List (List ℕ)
 lines zero n m = []
-lines (suc count) n m = addresses n m ∷ lines count n (afterLine n m)
-
--- the n addresses from a on
-unfoldable pub upFrom : ℕ → ℕ → List ℕ
-upFrom a zero = []
-upFrom a (suc n) = a ∷ upFrom (suc a) n
+lines (suc more) n m = addresses n m ∷ lines more n (afterLine n m)
 
 -- the same line, so many times over
 unfoldable pub repeated : ℕ → List ℕ → List (List ℕ)
@@ -38,7 +34,7 @@ repeated (suc times) line = line ∷ repeated times line
 -- so many rows of n bytes from address a on, one after the other, each shown so many times
 unfoldable pub rowsShown : ℕ → ℕ → ℕ → ℕ → List (List ℕ)
 rowsShown zero n times a = []
-rowsShown (suc rows) n times a = repeated times (upFrom a n) ++ rowsShown rows n times (a + n)
+rowsShown (suc rows) n times a = repeated times (count a n) ++ rowsShown rows n times (a + n)
 
 -- in mode v the 192 lines of the picture are so many rows of n bytes from address 0 on, each shown so many times
 abbrev pub Shows : ℕ → ℕ → ℕ → ℕ → Type 0
@@ -60,4 +56,4 @@ pub record Pictures : Type 0 where
   pub mode-101 : Shows 5 192 16 1
   pub mode-110 : Shows 6 192 32 1
   pub mode-111 : Shows 7 192 32 1
-  pub bytes-110 : joined (lines 192 32 (inMode 6)) ≡ upFrom 0 6144
+  pub bytes-110 : joined (lines 192 32 (inMode 6)) ≡ count 0 6144

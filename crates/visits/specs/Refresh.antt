@@ -41,15 +41,17 @@ falls (bus a read) m = 0
 falls (fetches n) m = 0
 falls (levels hs da0) m = num (eqb (levelsOf m hs da0 .edge) fall)
 
--- over a run of records: all rows refreshed, all falls, and R1 clear before each record
+-- over a run of records: all rows refreshed
 unfoldable pub visited : List Event → Multiplexer → List ℕ
 visited [] m = []
 visited (e ∷ es) m = refreshes e m ++ visited es (after e m)
 
+-- all falls
 unfoldable pub allFalls : List Event → Multiplexer → ℕ
 allFalls [] m = 0
 allFalls (e ∷ es) m = falls e m + allFalls es (after e m)
 
+-- R1 clear before each record
 unfoldable pub R1Clear : List Event → Multiplexer → Type 0
 R1Clear [] m = Unit {0}
 R1Clear (e ∷ es) m = (r1Of (m .control) ≡ false) × R1Clear es (after e m)

@@ -1,4 +1,3 @@
-use native.Mathlib.Nat.{one-mul, zero-mul, le-refl}
 use native.Mathlib.Omega.{arith}
 use Rattle.basics.proofs.bits.flag.Statement.{statement}
 use Rattle.basics.proofs.bits.flag.Tie as tie

@@ -12,13 +12,13 @@ start-requires c κs = search needs
 address-requires : tie.Need-address-requires
 address-requires c κs = search needs
 
-counted-requires : tie.Need-counted-requires
-counted-requires c κs = search needs
+latched-requires : tie.Need-latched-requires
+latched-requires c κs = search needs
 
 returns : tie.Need-returns
 unfolding cellLatchOf cellAddressOf
-returns c = rw (c .before .address .ensures, c .before .before .start .ensures, c .before .before .before .row-base .ensures) at (c .counted .ensures)
+returns c = rw (c .before .address .ensures, c .before .before .start .ensures, c .before .before .before .row-base .ensures) at (c .latched .ensures)
 
 pub cell-latch-spec : {M : Type 1} → statement M
 cell-latch-spec =
-    tie.close (tie.spec row-base-requires start-requires address-requires counted-requires returns)
+    tie.close (tie.spec row-base-requires start-requires address-requires latched-requires returns)

@@ -1,7 +1,5 @@
-use Prim.Native.Nat.{ℕ}
-use mathlib.Core.Path.{ap, sym, _∙_}
+use mathlib.Core.Path.{sym, _∙_}
 use borrow.Author.Needs.{needs}
-use Rattle.locator.specs.Cells.{fromBaseOf, fromLowOf}
 use Rattle.locator.proofs.Fits.{by-base, by-low}
 use Rattle.locator.proofs.fit.only_column.Statement.{statement}
 use Rattle.locator.proofs.fit.only_column.Tie as tie

@@ -9,14 +9,15 @@ use Rattle.raster.specs.Registers.{reg, startOf}
 use Rattle.raster.specs.Scan.{Move, along, down, nextRow, toAdjust, newFrame, moveOf, nextOf}
 use Rattle.raster.specs.declared.registers.Registers.{Registers}
 use Rattle.raster.specs.declared.scan.Scan.{Scan}
 use Rattle.controller.specs.Chip.{resetOf}
-use Rattle.controller.specs.Calls.{Act, afterActs, timesOf}
+use Rattle.frames.specs.Calls.{Act, afterActs, timesOf}
 use Rattle.controller.specs.declared.chip.Controller.{Controller}
 
 -- the character times of a frame
 abbrev pub frameTimes : Registers → ℕ
 frameTimes r = (reg r 0 + 1) * ((reg r 4 + 1) * (reg r 9 + 1) + reg r 5)
 
+-- the one move of the five that begins a frame
 abbrev pub beginsFrame : Move → Bool
 beginsFrame along = false
 beginsFrame down = false

@@ -1,10 +1,10 @@
--- Runs of calls. The theorems on the controller speak of these.
+-- Runs of calls (demand 3; document 01, "Controller registers" and "One character time"). The theorems on the controller speak of these.
 use Prim.Native.Nat.{ℕ, _+_}
 use mathlib.Core.Bool.{Bool}
 use mathlib.Core.List.{List, [], _∷_}
 use Rattle.controller.specs.Chip.{resetOf, writeOf, clockOf, strikeOf}
 use Rattle.controller.specs.Reads.{readOf}
 use Rattle.controller.specs.declared.chip.Controller.{Controller}
 
 -- everything that can be done to a controller
 pub data Call : Type 0 where
@@ -14,6 +14,7 @@ pub data Call : Type 0 where
   strike : Call
   reset : Call
 
+-- the controller after one of them
 unfoldable pub afterCall : Call → Controller → Controller
 afterCall (write rs v) c = writeOf c rs v
 afterCall (read rs) c = readOf c rs .controller
@@ -31,10 +32,12 @@ pub data Act : Type 0 where
   clocks : ℕ → Act
   strikes : Act
 
+-- the controller after one of them
 unfoldable pub afterAct : Act → Controller → Controller
 afterAct (clocks n) c = clockOf n c
 afterAct strikes c = strikeOf c
 
+-- one after the other, the first of the list first
 unfoldable pub afterActs : List Act → Controller → Controller
 afterActs [] c = c
 afterActs (a ∷ l) c = afterActs l (afterAct a c)

@@ -1,5 +1,5 @@
--- Demand 3, whole, of the real controller's calls: a reset, then character clocks and pen strikes in any order, then a locate.
--- No register is written in between.
+-- Demand 3, whole, of the real controller's calls: a reset, then character clocks and pen strikes in any order, then a locate. No
+-- register is written in between (document 01, "One character time", "The locator" and the table of refusals).
 use Prim.Native.Nat.{ℕ}
 use mathlib.Core.Path.{_≡_}
 use mathlib.Core.Bool.{true, false}
@@ -7,15 +7,14 @@ use mathlib.Core.List.{List, _∷_, _++_, map}
 use mathlib.Core.Logic.{_⊎_}
 use Rattle.facts.specs.Facts.{pictureOf, latchOf}
 use Rattle.raster.specs.declared.scan.Scan.{Scan}
-use Rattle.controller.specs.Chip.{resetOf}
-use Rattle.controller.specs.Calls.{Act, clocks, strikes, afterActs}
-use Rattle.controller.specs.Frames.{Frames}
+use Rattle.controller.specs.Chip.{freshOf, resetOf}
+use Rattle.frames.specs.Calls.{Call, afterCalls, Act, clocks, strikes, afterActs}
+use Rattle.frames.specs.Frames.{Frames}
 use Rattle.controller.specs.declared.chip.Controller.{Controller}
 use Rattle.locator.specs.Cells.{IsCell, cellAt, cellLatchOf}
-use Rattle.locator.specs.Locate.{locateOf}
+use Rattle.locator.specs.Locate.{refusalOf, cellOf, locateOf}
 use Rattle.locator.specs.declared.cells.Cell.{Cell}
 use Rattle.locator.specs.declared.answer.Located.{Located}
-use Rattle.locator.specs.declared.answer.Located.the-variants.{At, Unstruck, Outside, Several}
 
 -- the scan where a strike falls: after a reset and what came before the strike
 abbrev pub struckAt : Controller → List Act → Scan
@@ -31,6 +30,7 @@ pub record Rival (c : Controller) (s : Scan) (d : Cell) : Type 0 where
   pub latch : cellLatchOf (c .regs) d ≡ latchOf (c .regs) s
   pub other : d ≡ cellAt (s .row) (s .column) → ⊥
 
+-- the demand, sentence by sentence. Refusals stand by their numbers, and a located strike by its cell.
 pub record Demand3 (c : Controller) : Type 0 where
   -- the first new frame begins after exactly (R0+1) x ((R4+1) x (R9+1) + R5) character times, each later one after as many again,
   -- whatever pens fire (the parts of Frames say so one by one)
@@ -39,18 +39,23 @@ pub record Demand3 (c : Controller) : Type 0 where
   pub last-strike : (l : List Act)
       → ((more : List ℕ) × (l ≡ map clocks more)) ⊎ ((before : List Act) × (more : List ℕ) × (l ≡ before ++ strikes ∷ map clocks more))
   -- no strike since the reset: refused with 5
-  pub unstruck : (more : List ℕ) → locateOf (afterActs (map clocks more) (resetOf c)) ≡ Unstruck
+  pub unstruck : (more : List ℕ) → refusalOf (locateOf (afterActs (map clocks more) (resetOf c))) ≡ 5
   -- the last strike fell in the picture, and no other picture cell would leave its latch: that very row and column
   pub named : (before : List Act) (more : List ℕ)
       → pictureOf (c .regs) (struckAt c before) ≡ true
       → ((d : Cell) → Rival c (struckAt c before) d → ⊥)
-      → answerTo c before more ≡ At (cellAt (struckAt c before .row) (struckAt c before .column))
+      → (refusalOf (answerTo c before more) ≡ 0)
+      × (cellOf (answerTo c before more) ≡ cellAt (struckAt c before .row) (struckAt c before .column))
   -- it fell in the picture, and another picture cell would: refused with 8
   pub shared : (before : List Act) (more : List ℕ)
       → pictureOf (c .regs) (struckAt c before) ≡ true
       → (d : Cell) → Rival c (struckAt c before) d
-      → answerTo c before more ≡ Several
+      → refusalOf (answerTo c before more) ≡ 8
   -- it fell outside the picture: refused with 6, though a cell may share the address
   pub outside : (before : List Act) (more : List ℕ)
       → pictureOf (c .regs) (struckAt c before) ≡ false
-      → answerTo c before more ≡ Outside
+      → refusalOf (answerTo c before more) ≡ 6
+
+-- it holds of every controller that calls can reach from power-on, whatever was written to its registers
+abbrev pub Demand3Reached : Type 0
+Demand3Reached = (l : List Call) → Demand3 (afterCalls l freshOf)
