@@ -1,7 +1,7 @@
 -- The table of settled cases, computed row by row. Assumes nothing.
 use Prim.Native.Nat.{ℕ}
 use mathlib.Core.Path.{_≡_, refl, ap₂}
-use mathlib.Core.List.{List, [], _∷_}
+use mathlib.Core.List.{List, [], _∷_, map}
 use lib.ListN.{getD}
 use Rattle.basics.specs.Choice.{if_then_else_}
 use Rattle.basics.specs.Count.{count}
@@ -13,6 +13,7 @@ use Rattle.controller.specs.Chip.{arrivedOf, stepOf, clockOf, strikeOf}
 use Rattle.controller.specs.Pins.{pinOf, outputsOf}
 use Rattle.locator.specs.Cells.{cellsFrom, cellAddressOf, cellLatchOf, fitsOf, keep, theFit, fitOf}
 use Rattle.locator.specs.Locate.{namedOf, locateOf}
+use Rattle.cases.proofs.Begins.{begins}
 use Rattle.cases.specs.Cases.{setting, A, tall, reached, looked, seen, waits, cases, settled, Settled}
 
 infixr 20 _then_
@@ -23,9 +24,9 @@ _then_ p q = ap₂ (λ (a : List ℕ) (l : List (List ℕ)). a ∷ l) p q
 abbrev Row : ℕ → Type 0
 Row k = seen (getD cases k (waits A 0)) ≡ getD settled k []
 
-pub table : Settled
+shown : map seen cases ≡ settled
 unfolding if_then_else_ iterate lineEndOf moveOf movedOf nextOf hsyncOf vsyncStartsOf vsyncWidthOf vsyncOf arriveOf pictureOf addressOf maOf latchOf blinkOf cursorLineOf cursorOf factsOf arrivedOf stepOf clockOf strikeOf pinOf outputsOf count cellsFrom cellAddressOf cellLatchOf fitsOf keep theFit fitOf namedOf locateOf setting A tall reached looked seen cases settled
-table = a then b then c then d then e then f then g then h then i then j then refl
+shown = a then b then c then d then e then f then g then h then i then j then refl
   where
     a : Row 0
     a = refl
@@ -56,3 +57,6 @@ table = a then b then c then d then e then f then g then h then i then j then re
 
     j : Row 9
     j = refl
+
+pub table : Settled
+table = record { table = shown; frames = begins }
