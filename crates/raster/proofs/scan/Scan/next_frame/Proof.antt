@@ -11,7 +11,7 @@ top-requires c κs = search needs
 
 returns : tie.Need-returns
 unfolding movedOf
-returns c = cc
+returns c = rw (c .before .five-on .ensures) at (c .top .ensures)
 
 pub next-frame-spec : {M : Type 1} → statement M
 next-frame-spec = tie.close (tie.spec five-on-requires top-requires returns)
