@@ -2,7 +2,8 @@
 import collections
 import re
 
-from .machine import TOP, CannotRun, attempt, need, quietly, say
+from commands import TOP, CannotRun, attempt, need, quietly
+from .machine import say
 
 SOURCES = TOP / "tools" / "speed"
 ROOM = TOP / "target" / "bench"

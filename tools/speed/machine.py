@@ -1,21 +1,16 @@
-"""The machine, the toolchain's kit on it, and how commands are run."""
+"""The machine, and the toolchain's kit on it."""
 import collections
 import os
 import pathlib
 import platform
-import shutil
-import subprocess
 import sys
 
-TOP = pathlib.Path(__file__).resolve().parent.parent.parent
+from commands import CannotRun, attempt, need
+
 DIRECT = "x86_64"  # the kind of machine that proved code is compiled for
 
 # emulator: None on the kind of machine that runs proved code directly
 Kit = collections.namedtuple("Kit", "machine toolchain linker emulator")
-
-
-class CannotRun(Exception):
-    """Something that is needed is missing or failed."""
 
 
 class Differs(Exception):
@@ -25,30 +20,6 @@ class Differs(Exception):
 def say(words):
     """Tells how far the run is."""
     print(f"bench: {words}", file=sys.stderr, flush=True)
-
-
-def need(command):
-    """Sees that a command is there."""
-    if shutil.which(command) is None:
-        raise CannotRun(f"the command {command} is not on the PATH")
-
-
-def attempt(words, folder=TOP):
-    """Runs a command. Gives whether it ended well, and all that it said."""
-    try:
-        done = subprocess.run([str(word) for word in words], cwd=folder, stdin=subprocess.DEVNULL,
-                              stdout=subprocess.PIPE, stderr=subprocess.STDOUT)
-    except OSError as problem:
-        return False, f"cannot run {words[0]}: {problem.strerror}\n"
-    return done.returncode == 0, done.stdout.decode(errors="replace")
-
-
-def quietly(words, folder=TOP):
-    """Runs a building command, and shows what it said only if it fails."""
-    well, said = attempt(words, folder)
-    if not well:
-        sys.stderr.write(said)
-        raise CannotRun(f"'{' '.join(str(word) for word in words)}' failed")
 
 
 def find_kit():

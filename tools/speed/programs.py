@@ -3,7 +3,8 @@ import collections
 import subprocess
 import time
 
-from .machine import TOP, CannotRun, Differs, attempt, environment, running, say
+from commands import TOP, CannotRun, attempt
+from .machine import Differs, environment, running, say
 
 LISTING = TOP / "target" / "bin" / "listing"
 SECOND = TOP / "second" / "target" / "release" / "second"

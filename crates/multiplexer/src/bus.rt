@@ -10,8 +10,8 @@ ghost use Rattle.multiplexer.specs.Bus.{isRamOf, selectOf, isSlowOf, tic
 // The selects of the $FF00 block, 32 addresses each.
 const BLOCK_SELECTS: [u8; 8] = [4, 5, 6, 7, 7, 7, 7, 2];
 
-// What a cycle shows: the device select, its length in ticks of the crystal, its flags (1 RAM, 2 barred pair, 4 control write), and its
-// cell, zero where it is not for RAM.
+// What a cycle shows: the device select, its length in ticks of the crystal, its flags (RAM the lowest bit, then the barred pair, then a
+// control write), and its cell, zero where it is not for RAM.
 pub struct Cycle {
     pub select: u8,
     pub ticks: u8,
