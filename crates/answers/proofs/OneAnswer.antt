@@ -68,6 +68,13 @@ use Rattle.answer.proofs.Answer.bytes.Reads as answer·bytes
 use Rattle.answer.proofs.Answer.done.Reads as answer·done
 use Rattle.answer.proofs.Answer.plain.Reads as answer·plain
 use Rattle.text.proofs.put_hex.Reads as text·put-hex
+use Rattle.bodies.proofs.bus_answer.Reads as bodies·bus-answer
+use Rattle.bodies.proofs.levels_answer.Reads as bodies·levels-answer
+use Rattle.bodies.proofs.located_answer.Reads as bodies·located-answer
+use Rattle.bodies.proofs.read_answer.Reads as bodies·read-answer
+use Rattle.bodies.proofs.shown_answer.Reads as bodies·shown-answer
+use Rattle.bodies.proofs.strike_answer.Reads as bodies·strike-answer
+use Rattle.bodies.proofs.time_answer.Reads as bodies·time-answer
 use Rattle.bench.proofs.clock.Reads as bench·clock
 use Rattle.bench.proofs.step.Bench.step.Reads as bench·step
 use Rattle.bench.proofs.strike.Reads as bench·strike
@@ -283,6 +290,27 @@ answer-plain κs a x y s t p q = one-answer p q
 
 pub text-put-hex : OneOutcome text·put-hex.Post (λ κs s. now (s .0)) (λ κs s. now (s .1 .1 .0))
 text-put-hex κs a x y s t p q = (one-answer (p .0) (q .0), one-answer (p .1 .0) (q .1 .0), one-answer (p .1 .1) (q .1 .1))
+
+pub bodies-bus-answer : OneAnswer bodies·bus-answer.Post
+bodies-bus-answer κs a x y s t p q = one-answer p q
+
+pub bodies-levels-answer : OneAnswer bodies·levels-answer.Post
+bodies-levels-answer κs a x y s t p q = one-answer p q
+
+pub bodies-located-answer : OneAnswer bodies·located-answer.Post
+bodies-located-answer κs a x y s t p q = one-answer p q
+
+pub bodies-read-answer : OneAnswer bodies·read-answer.Post
+bodies-read-answer κs a x y s t p q = one-answer p q
+
+pub bodies-shown-answer : OneAnswer bodies·shown-answer.Post
+bodies-shown-answer κs a x y s t p q = one-answer p q
+
+pub bodies-strike-answer : OneAnswer bodies·strike-answer.Post
+bodies-strike-answer κs a x y s t p q = one-answer p q
+
+pub bodies-time-answer : OneAnswer bodies·time-answer.Post
+bodies-time-answer κs a x y s t p q = one-answer p q
 
 pub bench-clock : OneAnswer bench·clock.Post
 bench-clock κs a x y s t p q = one-answer p q

@@ -13,7 +13,7 @@ use Rattle.record.specs.declared.event.Event.the-variants.{Write, Read, Clocks,
 use Rattle.record.specs.declared.kinds.Refusal.{Refusal}
 use Rattle.record.specs.declared.kinds.Decoded.{Decoded}
 use Rattle.record.specs.declared.kinds.Decoded.the-variants.{Known, Refused}
-use Rattle.bench.specs.Answers.{readAnswerOf, timeAnswerOf, strikeAnswerOf, busAnswerOf, shownAnswerOf, levelsAnswerOf, locatedAnswerOf}
+use Rattle.bodies.specs.Bodies.{readAnswerOf, timeAnswerOf, strikeAnswerOf, busAnswerOf, shownAnswerOf, levelsAnswerOf, locatedAnswerOf}
 use Rattle.bench.specs.Step.{onRead, onClocks, onStrike, onReset, onCycle, onFetches, onLevels, onEvent, onDecoded, stepOf}
 use Rattle.bench.specs.Refusals.{Refusals}
 use Rattle.bench.specs.declared.step.Bench.{Bench}

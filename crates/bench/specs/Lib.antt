@@ -1,4 +1,3 @@
-pub mod Answers
 pub mod Step
 pub mod Alone
 pub mod Refusals

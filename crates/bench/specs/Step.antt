@@ -17,7 +17,7 @@ use Rattle.record.specs.declared.event.Event.{Event}
 use Rattle.record.specs.declared.event.Event.the-variants.{Write, Read, Clocks, Strike, Reset, Cycle, Fetches, Levels, Locate}
 use Rattle.record.specs.declared.kinds.Decoded.{Decoded}
 use Rattle.record.specs.declared.kinds.Decoded.the-variants.{Known, Refused}
-use Rattle.bench.specs.Answers.{readAnswerOf, timeAnswerOf, strikeAnswerOf, busAnswerOf, shownAnswerOf, levelsAnswerOf, locatedAnswerOf}
+use Rattle.bodies.specs.Bodies.{readAnswerOf, timeAnswerOf, strikeAnswerOf, busAnswerOf, shownAnswerOf, levelsAnswerOf, locatedAnswerOf}
 use Rattle.bench.specs.declared.step.Bench.{Bench}
 use Rattle.bench.specs.declared.step.Stepped.{Stepped}
 

@@ -1,6 +1,5 @@
 // Both chips side by side: one record, decoded once, handed to the chip that it is for, and answered.
 mod alone;
-mod answers;
 mod step;
 
 pub use alone::Told;

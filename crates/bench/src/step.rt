@@ -1,14 +1,14 @@
 // One record on the bench.
 ghost use mathlib.Core.Path.{_≡_};
 ghost use Rattle.bench.specs.Step.{withController, withMultiplexer, onRead, onClocks, onStrike, onReset, onCycle, onFetches, onLevels, onEvent, stepOf};
-use crate::answers::bus_answer;
-use crate::answers::levels_answer;
-use crate::answers::located_answer;
-use crate::answers::read_answer;
-use crate::answers::shown_answer;
-use crate::answers::strike_answer;
-use crate::answers::time_answer;
 use answer::Answer;
+use bodies::bus_answer;
+use bodies::levels_answer;
+use bodies::located_answer;
+use bodies::read_answer;
+use bodies::shown_answer;
+use bodies::strike_answer;
+use bodies::time_answer;
 use controller::Controller;
 use locator::locate;
 use multiplexer::Multiplexer;

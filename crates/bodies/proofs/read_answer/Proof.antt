@@ -1,7 +1,7 @@
-use Rattle.bench.specs.Answers.{readAnswerOf}
+use Rattle.bodies.specs.Bodies.{readAnswerOf}
 use borrow.Author.Needs.{needs}
-use Rattle.bench.proofs.answers.read_answer.Statement.{statement}
-use Rattle.bench.proofs.answers.read_answer.Tie as tie
+use Rattle.bodies.proofs.read_answer.Statement.{statement}
+use Rattle.bodies.proofs.read_answer.Tie as tie
 
 number-requires : tie.Need-number-requires
 number-requires c κs = search needs

@@ -1,7 +1,7 @@
-use Rattle.bench.specs.Answers.{levelsAnswerOf}
+use Rattle.bodies.specs.Bodies.{levelsAnswerOf}
 use borrow.Author.Needs.{needs}
-use Rattle.bench.proofs.answers.levels_answer.Statement.{statement}
-use Rattle.bench.proofs.answers.levels_answer.Tie as tie
+use Rattle.bodies.proofs.levels_answer.Statement.{statement}
+use Rattle.bodies.proofs.levels_answer.Tie as tie
 
 done-requires : tie.Need-done-requires
 done-requires c κs = search needs

@@ -1,7 +1,7 @@
-use Rattle.bench.specs.Answers.{busAnswerOf}
+use Rattle.bodies.specs.Bodies.{busAnswerOf}
 use borrow.Author.Needs.{needs}
-use Rattle.bench.proofs.answers.bus_answer.Statement.{statement}
-use Rattle.bench.proofs.answers.bus_answer.Tie as tie
+use Rattle.bodies.proofs.bus_answer.Statement.{statement}
+use Rattle.bodies.proofs.bus_answer.Tie as tie
 
 done-requires : tie.Need-done-requires
 done-requires c κs = search needs

@@ -1,7 +1,7 @@
-use Rattle.bench.specs.Answers.{locatedAnswerOf}
+use Rattle.bodies.specs.Bodies.{locatedAnswerOf}
 use borrow.Author.Needs.{needs}
-use Rattle.bench.proofs.answers.located_answer.Statement.{statement}
-use Rattle.bench.proofs.answers.located_answer.Tie as tie
+use Rattle.bodies.proofs.located_answer.Statement.{statement}
+use Rattle.bodies.proofs.located_answer.Tie as tie
 
 cell-requires : tie.Need-cell-requires
 cell-requires c κs = search needs

@@ -1,7 +1,7 @@
-use Rattle.bench.specs.Answers.{shownAnswerOf}
+use Rattle.bodies.specs.Bodies.{shownAnswerOf}
 use borrow.Author.Needs.{needs}
-use Rattle.bench.proofs.answers.shown_answer.Statement.{statement}
-use Rattle.bench.proofs.answers.shown_answer.Tie as tie
+use Rattle.bodies.proofs.shown_answer.Statement.{statement}
+use Rattle.bodies.proofs.shown_answer.Tie as tie
 
 number-requires : tie.Need-number-requires
 number-requires c κs = search needs

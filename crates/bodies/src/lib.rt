@@ -1,6 +1,6 @@
-// What is answered: the body bytes of each kind, from what its chip tells.
+// What is answered to a record that was done: the body of each kind, from what its chip tells.
 ghost use mathlib.Core.Path.{_≡_};
-ghost use Rattle.bench.specs.Answers.{readAnswerOf, flagsOf, timeAnswerOf, strikeAnswerOf, busAnswerOf, shownAnswerOf, levelsAnswerOf, locatedAnswerOf};
+ghost use Rattle.bodies.specs.Bodies.{readAnswerOf, flagsOf, timeAnswerOf, strikeAnswerOf, busAnswerOf, shownAnswerOf, levelsAnswerOf, locatedAnswerOf};
 use answer::Answer;
 use basics::flag;
 use basics::high;
@@ -14,7 +14,7 @@ use multiplexer::Cycle;
 use multiplexer::Levelled;
 use multiplexer::Shown;
 
-pub(crate) fn read_answer(kind: u8, r: Reading) -> Answer
+pub fn read_answer(kind: u8, r: Reading) -> Answer
     ensures { λ a. ⌜ a ≡ readAnswerOf kind r ⌝ }
 {
     Answer::done(kind, number(r.driven), r.value, 0, 0, 0, 0)
@@ -31,13 +31,13 @@ fn flags(o: Outputs) -> u8
         + flag(o.vsync, 16)
 }
 
-pub(crate) fn time_answer(kind: u8, o: Outputs) -> Answer
+pub fn time_answer(kind: u8, o: Outputs) -> Answer
     ensures { λ a. ⌜ a ≡ timeAnswerOf kind o ⌝ }
 {
     Answer::done(kind, high(o.ma), low(o.ma), o.ra, flags(o), 0, 0)
 }
 
-pub(crate) fn strike_answer(kind: u8, pen: Pen) -> Answer
+pub fn strike_answer(kind: u8, pen: Pen) -> Answer
     ensures { λ a. ⌜ a ≡ strikeAnswerOf kind pen ⌝ }
 {
     Answer::done(
@@ -51,7 +51,7 @@ pub(crate) fn strike_answer(kind: u8, pen: Pen) -> Answer
     )
 }
 
-pub(crate) fn bus_answer(kind: u8, c: Cycle) -> Answer
+pub fn bus_answer(kind: u8, c: Cycle) -> Answer
     ensures { λ a. ⌜ a ≡ busAnswerOf kind c ⌝ }
 {
     Answer::done(
@@ -65,7 +65,7 @@ pub(crate) fn bus_answer(kind: u8, c: Cycle) -> Answer
     )
 }
 
-pub(crate) fn shown_answer(kind: u8, s: Shown) -> Answer
+pub fn shown_answer(kind: u8, s: Shown) -> Answer
     ensures { λ a. ⌜ a ≡ shownAnswerOf kind s ⌝ }
 {
     Answer::done(
@@ -79,13 +79,13 @@ pub(crate) fn shown_answer(kind: u8, s: Shown) -> Answer
     )
 }
 
-pub(crate) fn levels_answer(kind: u8, l: Levelled) -> Answer
+pub fn levels_answer(kind: u8, l: Levelled) -> Answer
     ensures { λ a. ⌜ a ≡ levelsAnswerOf kind l ⌝ }
 {
     Answer::done(kind, l.edge, l.first, l.count, 0, 0, 0)
 }
 
-pub(crate) fn located_answer(kind: u8, l: Located) -> Answer
+pub fn located_answer(kind: u8, l: Located) -> Answer
     ensures { λ a. ⌜ a ≡ locatedAnswerOf kind l ⌝ }
 {
     let cell = l.cell();

@@ -1,7 +1,7 @@
-use Rattle.bench.specs.Answers.{timeAnswerOf}
+use Rattle.bodies.specs.Bodies.{timeAnswerOf}
 use borrow.Author.Needs.{needs}
-use Rattle.bench.proofs.answers.time_answer.Statement.{statement}
-use Rattle.bench.proofs.answers.time_answer.Tie as tie
+use Rattle.bodies.proofs.time_answer.Statement.{statement}
+use Rattle.bodies.proofs.time_answer.Tie as tie
 
 high-requires : tie.Need-high-requires
 high-requires c κs = search needs

@@ -1,7 +1,7 @@
-use Rattle.bench.specs.Answers.{flagsOf}
+use Rattle.bodies.specs.Bodies.{flagsOf}
 use borrow.Author.Needs.{needs}
-use Rattle.bench.proofs.answers.flags.Statement.{statement}
-use Rattle.bench.proofs.answers.flags.Tie as tie
+use Rattle.bodies.proofs.flags.Statement.{statement}
+use Rattle.bodies.proofs.flags.Tie as tie
 
 flag-requires : tie.Need-flag-requires
 flag-requires c κs = search needs

@@ -1,7 +1,7 @@
-use Rattle.bench.specs.Answers.{strikeAnswerOf}
+use Rattle.bodies.specs.Bodies.{strikeAnswerOf}
 use borrow.Author.Needs.{needs}
-use Rattle.bench.proofs.answers.strike_answer.Statement.{statement}
-use Rattle.bench.proofs.answers.strike_answer.Tie as tie
+use Rattle.bodies.proofs.strike_answer.Statement.{statement}
+use Rattle.bodies.proofs.strike_answer.Tie as tie
 
 high-requires : tie.Need-high-requires
 high-requires c κs = search needs
