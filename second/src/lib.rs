@@ -1,6 +1,6 @@
-//! A second reading of the bench on paper: one 6545-1 CRT controller and one
-//! MC6883 synchronous address multiplexer, side by side, driven by a batch of
-//! four-byte records and answering each with eight bytes.
+//! A second reading of the bench on paper: a 6545-1 CRT controller beside an
+//! MC6883 synchronous address multiplexer. A batch of four-byte records drives
+//! them, and each record is answered with eight bytes.
 //!
 //! Everything is counted the slow way, as the rules read: one character time,
 //! one fetch, one cell after another.

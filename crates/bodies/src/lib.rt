@@ -1,4 +1,4 @@
-// What is answered to a record that was done: the body of each kind, from what its chip tells.
+// What is answered: the body of each kind, from what its chip tells, and for kind 9 the locator's refusal too.
 ghost use mathlib.Core.Path.{_≡_};
 ghost use Rattle.bodies.specs.Bodies.{readAnswerOf, flagsOf, timeAnswerOf, strikeAnswerOf, busAnswerOf, shownAnswerOf, levelsAnswerOf, locatedAnswerOf};
 use answer::Answer;

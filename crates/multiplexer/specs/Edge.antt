@@ -9,19 +9,19 @@ use Rattle.display.specs.declared.counter.Display.{Display}
 use Rattle.display.specs.Modes.{modeAt}
 use Rattle.display.specs.Edges.{fallOf, preloadOf}
 
--- The numbers by which an answer tells an edge. HS kept its level
+-- The numbers by which an answer tells an edge. 0: HS kept its level
 abbrev pub noEdge : ℕ
 noEdge = 0
 
--- HS fell
+-- 1: HS fell
 abbrev pub fall : ℕ
 fall = 1
 
--- HS rose, DA0 low
+-- 2: HS rose, DA0 low
 abbrev pub rise : ℕ
 rise = 2
 
--- HS rose, DA0 high
+-- 3: HS rose, DA0 high
 abbrev pub preload : ℕ
 preload = 3
 

@@ -25,7 +25,7 @@ pub struct Controller {
     scan: Scan,
     sync: Sync,
     pen: Pen,
-    /// The facts of the character just left, judged as it was left.
+    /// The facts of the last character, as they stood when the scan left it.
     left: Facts,
 }
 
