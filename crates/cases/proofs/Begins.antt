@@ -24,33 +24,21 @@ keeps r n z t =
     frames (arrivedOf r)
     (record { sixteen = n; each = λ k h. lit< (at inWidth (r .held) t k (omega arith)); named = omega arith })
 
+infixr 20 _then_
+_then_ : {P Q : Type 0} → P → Q → P × Q
+_then_ p q = (p, q)
+
 pub begins : EachBegins cases
 unfolding setting A tall cases EachBegins
-begins = (
-  keeps A refl refl tt,
-  (
-    keeps _ refl refl tt,
-    (
-      keeps _ refl refl tt,
-      (
-        keeps A refl refl tt,
-        (
-          keeps A refl refl tt,
-          (
-            keeps A refl refl tt,
-            (
-              keeps A refl refl tt,
-              (
-                keeps (tall 129) refl refl tt,
-                (
-                  keeps (tall 130) refl refl tt,
-                  (keeps (tall 130) refl refl tt, tt),
-                ),
-              ),
-            ),
-          ),
-        ),
-      ),
-    ),
-  ),
-)
+begins =
+    keeps A refl refl tt
+    then keeps (setting 0 0 0 0 0 0) refl refl tt
+    then keeps (setting 255 0 127 31 0 31) refl refl tt
+    then keeps A refl refl tt
+    then keeps A refl refl tt
+    then keeps A refl refl tt
+    then keeps A refl refl tt
+    then keeps (tall 129) refl refl tt
+    then keeps (tall 130) refl refl tt
+    then keeps (tall 130) refl refl tt
+    then tt
