@@ -10,7 +10,6 @@ use Rattle.basics.proofs.Table.{every, at}
 use Rattle.raster.specs.Registers.{widths}
 use Rattle.raster.specs.declared.registers.Registers.{Registers}
 use Rattle.controller.specs.Chip.{arrivedOf}
-use Rattle.frames.specs.Widths.{RegistersFit}
 use Rattle.frames.specs.Frames.{Frames}
 use Rattle.frames.proofs.Frames.{frames}
 use Rattle.cases.specs.Cases.{setting, A, tall, cases, EachBegins}
