@@ -9,6 +9,7 @@ use Rattle.raster.specs.Sync.{arriveOf}
 use Rattle.facts.specs.Facts.{pictureOf, latchOf, factsOf}
 use Rattle.raster.specs.declared.registers.Registers.{Registers}
 use Rattle.facts.specs.declared.facts.Facts.{Facts}
+use Rattle.raster.specs.declared.scan.Scan.{Scan}
 use Rattle.raster.specs.declared.sync.Sync.{Sync}
 use Rattle.clocks.specs.declared.place.Place.{Place}
 use Rattle.clocks.specs.declared.place.Walk.{Walk}
@@ -70,16 +71,17 @@ stepOf c = record {
 unfoldable pub clockOf : ℕ → Controller → Controller
 clockOf n c = iterate stepOf n c
 
--- a strike latches the pen's address and whether this character is in the picture (the fact, not the pin), and sets L; an earlier
--- strike is forgotten
+-- the controller with another pen
+abbrev pub withPen : Pen → Controller → Controller
+withPen pen c = record { regs = c .regs; scan = c .scan; sync = c .sync; left = c .left; pen = pen }
+
+-- what a strike at a character makes of the pen: the latch, whether the character is in the picture (the fact, not the pin), and L set
+abbrev pub struckOf : Registers → Scan → Pen
+struckOf r s = record { latch = latchOf r s; inside = pictureOf r s; struck = true; full = true }
+
+-- a strike: an earlier one is forgotten
 unfoldable pub strikeOf : Controller → Controller
-strikeOf c = record {
-  regs = c .regs;
-  scan = c .scan;
-  sync = c .sync;
-  left = c .left;
-  pen = record { latch = latchOf (c .regs) (c .scan); inside = pictureOf (c .regs) (c .scan); struck = true; full = true };
-}
+strikeOf c = withPen (struckOf (c .regs) (c .scan)) c
 
 -- the part of the controller that walks: its scan and its syncs
 abbrev pub placeOf : Controller → Place

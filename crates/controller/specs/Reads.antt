@@ -5,6 +5,7 @@ use lib.Dec.{eqb, leb}
 use Rattle.basics.specs.Choice.{if_then_else_}
 use Rattle.basics.specs.Bits.{num, highOf, lowOf}
 use Rattle.raster.specs.Registers.{reg}
+use Rattle.controller.specs.Chip.{withPen}
 use Rattle.controller.specs.declared.chip.Controller.{Controller}
 use Rattle.controller.specs.declared.reads.Reading.{Reading}
 
@@ -28,13 +29,7 @@ drivenOf k = not (eqb k 31)
 
 -- L is cleared, the latch stays
 unfoldable pub emptiedOf : Controller → Controller
-emptiedOf c = record {
-  regs = c .regs;
-  scan = c .scan;
-  sync = c .sync;
-  left = c .left;
-  pen = record { latch = c .pen .latch; inside = c .pen .inside; struck = c .pen .struck; full = false };
-}
+emptiedOf c = withPen (record { latch = c .pen .latch; inside = c .pen .inside; struck = c .pen .struck; full = false }) c
 
 -- reading R16 or R17 clears L
 unfoldable pub afterReadOf : Controller → ℕ → Controller

@@ -3,7 +3,7 @@ use mathlib.Core.Path.{_≡_, refl, ap}
 use mathlib.Core.List.{[]}
 use native.Mathlib.Omega.{arith}
 use denote.Ref.{now}
-use lib.ListN.{length, drop, length-drop, drop-of-length-le}
+use lib.ListN.{length, take, drop, length-drop, drop-of-length-le}
 use lib.Seq.{take-all, take-nil, drop-length}
 use borrow.Rule.Slice.Shared.{byByte}
 use borrow.Author.Needs.{needs}
@@ -42,9 +42,11 @@ part-result-end-2 c = search needs
 returns-2 : tie.Need-returns-2
 returns-2 c =
     let a = c .before .before .args in
+    let n = length (now (a .batch)) in
     let none : drop (a .taken) (now (a .batch)) ≡ [] = drop-of-length-le (now (a .batch)) {i = a .taken} (omega arith) in
-    let place : byByte (length (now (a .batch))) (a .batch .ptr .1) ≡ a .batch .ptr .1 + min (a .taken) (length (now (a .batch))) = omega arith in
-    (rw (none, drop-length, take-nil), (at-place (a .batch .ptr .0) place, refl))
+    let place : byByte n (a .batch .ptr .1) ≡ a .batch .ptr .1 + min (a .taken) n = omega arith in
+    let gone : take (n - n) (drop n (now (a .batch))) ≡ drop (a .taken) (now (a .batch)) = rw (none, drop-length, take-nil) in
+    (gone, (at-place (a .batch .ptr .0) place, refl))
 
 pub unread-rest-spec : {M : Type 1} → statement M
 unread-rest-spec =
