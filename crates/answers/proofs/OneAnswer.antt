@@ -1,11 +1,11 @@
--- One answer: of every public function, over its real contract (`Post`, which Rattle makes of the source's clauses), two results that meet
--- it are equal, and so are the contents of every buffer lent to it. tools/check-contracts holds this list to the public functions.
+-- One answer: a law for every public function, over its real contract (`Post`, which Rattle makes of the source's clauses), with all that
+-- is lent to it. tools/check-contracts works out each law's type from the function's signature, and holds this file to it.
 -- Assumes nothing.
-use Prim.Native.Nat.{ℕ}
-use mathlib.Core.Path.{_≡_}
-use mathlib.Core.List.{List}
+use mathlib.Core.List.{[], _∷_}
+use mathlib.Core.Path.{refl}
 use denote.Ref.{now}
-use Rattle.basics.proofs.OneAnswer.{one-answer}
+use Rattle.answers.proofs.Alike.{one-answer, and-then}
+use Rattle.answers.specs.OneAnswer.{OneAnswer, OneOutcome, OnePart}
 use Rattle.basics.proofs.flag.Reads as basics·flag
 use Rattle.basics.proofs.high.Reads as basics·high
 use Rattle.basics.proofs.low.Reads as basics·low
@@ -68,6 +68,7 @@ use Rattle.answer.proofs.Answer.bytes.Reads as answer·bytes
 use Rattle.answer.proofs.Answer.done.Reads as answer·done
 use Rattle.answer.proofs.Answer.plain.Reads as answer·plain
 use Rattle.text.proofs.put_hex.Reads as text·put-hex
+use Rattle.text.proofs.said.Reads as text·said
 use Rattle.bodies.proofs.bus_answer.Reads as bodies·bus-answer
 use Rattle.bodies.proofs.levels_answer.Reads as bodies·levels-answer
 use Rattle.bodies.proofs.located_answer.Reads as bodies·located-answer
@@ -89,22 +90,6 @@ use Rattle.exports.proofs.controller_reset.Reads as exports·controller-reset
 use Rattle.exports.proofs.controller_strike.Reads as exports·controller-strike
 use Rattle.exports.proofs.display_fetches.Reads as exports·display-fetches
 
--- κs, a: the lifetimes and the arguments; x, y: two results; s, t: the lent buffers after each
-abbrev pub OneAnswer : {K : Type 0} {D R S : K → Type 0} → ((κs : K) → D κs → R κs → S κs → Type 0) → Type 0
-OneAnswer {K} {D} {R} {S} P = (κs : K) (a : D κs) (x y : R κs) (s t : S κs) → P κs a x s → P κs a y t → x ≡ y
-
--- the same with two lent buffers: what the written one and the one that is only read hold afterwards is one too
-abbrev pub OneOutcome : {K : Type 0} {D R S : K → Type 0} → ((κs : K) → D κs → R κs → S κs → Type 0) → (written read : (κs : K) → S κs → List ℕ) → Type 0
-OneOutcome {K} {D} {R} {S} P written read =
-    (κs : K) (a : D κs) (x y : R κs) (s t : S κs) → P κs a x s → P κs a y t
-    → (x ≡ y) × (written κs s ≡ written κs t) × (read κs s ≡ read κs t)
-
--- and where the answer is a part of the caller's own slice: its bytes, its place, and the slice itself are one
-abbrev pub OnePart : {K : Type 0} {D R S : K → Type 0} {Q : Type 0} → ((κs : K) → D κs → R κs → S κs → Type 0) → ((κs : K) → R κs → List ℕ) → ((κs : K) → R κs → Q) → ((κs : K) → S κs → List ℕ) → Type 0
-OnePart {K} {D} {R} {S} {Q} P bytes place read =
-    (κs : K) (a : D κs) (x y : R κs) (s t : S κs) → P κs a x s → P κs a y t
-    → (bytes κs x ≡ bytes κs y) × (place κs x ≡ place κs y) × (read κs s ≡ read κs t)
-
 pub basics-flag : OneAnswer basics·flag.Post
 basics-flag κs a x y s t p q = one-answer (p .0) (q .0)
 
@@ -117,8 +102,8 @@ basics-low κs a x y s t p q = one-answer p q
 pub basics-number : OneAnswer basics·number.Post
 basics-number κs a x y s t p q = one-answer p q
 
-pub basics-put : OneOutcome basics·put.Post (λ κs s. now (s .0)) (λ κs s. now (s .1 .1 .0))
-basics-put κs a x y s t p q = (one-answer (p .0) (q .0), one-answer (p .1 .0) (q .1 .0), one-answer (p .1 .1) (q .1 .1))
+pub basics-put : OneOutcome basics·put.Post (λ κs s. now (s .0) ∷ now (s .1 .1 .0) ∷ [])
+basics-put κs a x y s t p q = (one-answer (p .0) (q .0), and-then (one-answer (p .1 .0) (q .1 .0)) (and-then (one-answer (p .1 .1) (q .1 .1)) refl))
 
 pub basics-counted : OneAnswer basics·counted.Post
 basics-counted κs a x y s t p q = one-answer p q
@@ -288,8 +273,11 @@ answer-done κs a x y s t p q = one-answer p q
 pub answer-plain : OneAnswer answer·plain.Post
 answer-plain κs a x y s t p q = one-answer p q
 
-pub text-put-hex : OneOutcome text·put-hex.Post (λ κs s. now (s .0)) (λ κs s. now (s .1 .1 .0))
-text-put-hex κs a x y s t p q = (one-answer (p .0) (q .0), one-answer (p .1 .0) (q .1 .0), one-answer (p .1 .1) (q .1 .1))
+pub text-put-hex : OneOutcome text·put-hex.Post (λ κs s. now (s .0) ∷ now (s .1 .1 .0) ∷ [])
+text-put-hex κs a x y s t p q = (one-answer (p .0) (q .0), and-then (one-answer (p .1 .0) (q .1 .0)) (and-then (one-answer (p .1 .1) (q .1 .1)) refl))
+
+pub text-said : OneOutcome text·said.Post (λ κs s. now (s .1 .0) ∷ [])
+text-said κs a x y s t p q = (one-answer (p .0) (q .0), and-then (one-answer (p .1 .1) (q .1 .1)) refl)
 
 pub bodies-bus-answer : OneAnswer bodies·bus-answer.Post
 bodies-bus-answer κs a x y s t p q = one-answer p q
@@ -324,17 +312,17 @@ bench-strike κs a x y s t p q = one-answer p q
 pub bench-write : OneAnswer bench·write.Post
 bench-write κs a x y s t p q = one-answer p q
 
-pub replay-replay : OneOutcome replay·replay.Post (λ κs s. now (s .1 .0)) (λ κs s. now (s .0))
-replay-replay κs a x y s t p q = (one-answer (p .0) (q .0), one-answer (p .1 .0) (q .1 .0), one-answer (p .1 .1) (q .1 .1))
+pub replay-replay : OneOutcome replay·replay.Post (λ κs s. now (s .1 .0) ∷ now (s .0) ∷ [])
+replay-replay κs a x y s t p q = (one-answer (p .0) (q .0), and-then (one-answer (p .1 .0) (q .1 .0)) (and-then (one-answer (p .1 .1) (q .1 .1)) refl))
 
-pub replay-unread-rest : OnePart replay·unread-rest.Post (λ κs r. now r) (λ κs r. r .ptr) (λ κs s. now (s .0))
-replay-unread-rest κs a x y s t p q = (one-answer (p .0) (q .0), one-answer (p .1 .0) (q .1 .0), one-answer (p .1 .1) (q .1 .1))
+pub replay-unread-rest : OnePart replay·unread-rest.Post (λ κs r. now r) (λ κs r. r .ptr) (λ κs s. now (s .0) ∷ [])
+replay-unread-rest κs a x y s t p q = (one-answer (p .0) (q .0), one-answer (p .1 .0) (q .1 .0), and-then (one-answer (p .1 .1) (q .1 .1)) refl)
 
-pub lister-list : OneOutcome lister·list.Post (λ κs s. now (s .1 .0)) (λ κs s. now (s .0))
-lister-list κs a x y s t p q = (one-answer (p .0) (q .0), one-answer (p .1 .0) (q .1 .0), one-answer (p .1 .1 .1) (q .1 .1 .1))
+pub lister-list : OneOutcome lister·list.Post (λ κs s. now (s .1 .0) ∷ now (s .0) ∷ [])
+lister-list κs a x y s t p q = (one-answer (p .0) (q .0), and-then (one-answer (p .1 .0) (q .1 .0)) (and-then (one-answer (p .1 .1 .1) (q .1 .1 .1)) refl))
 
-pub lister-room : OneOutcome lister·room.Post (λ κs s. now (s .1 .0)) (λ κs s. now (s .0))
-lister-room κs a x y s t p q = (one-answer (p .0) (q .0), one-answer (p .1 .0) (q .1 .0), one-answer (p .1 .1 .1) (q .1 .1 .1))
+pub lister-room : OneOutcome lister·room.Post (λ κs s. now (s .1 .0) ∷ now (s .0) ∷ [])
+lister-room κs a x y s t p q = (one-answer (p .0) (q .0), and-then (one-answer (p .1 .0) (q .1 .0)) (and-then (one-answer (p .1 .1 .1) (q .1 .1 .1)) refl))
 
 pub exports-controller-clock : OneAnswer exports·controller-clock.Post
 exports-controller-clock κs a x y s t p q = one-answer p q

@@ -4,5 +4,4 @@ pub mod Laying
 pub mod Table
 pub mod Widths
 pub mod Words
-pub mod OneAnswer
 pub mod Tests
