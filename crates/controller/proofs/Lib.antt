@@ -1,1 +1,2 @@
 pub mod Clocking
+pub mod Reading

@@ -14,14 +14,16 @@ use Rattle.raster.specs.declared.registers.Registers.{Registers}
 use Rattle.raster.specs.declared.scan.Scan.{Scan}
 use Rattle.facts.specs.Facts.{pictureOf, maOf, latchOf}
 use Rattle.controller.specs.Chip.{arrivedOf, freshOf, resetOf, stepOf, clockOf, strikeOf}
-use Rattle.frames.specs.Calls.{afterCalls, Act, clocks, strikes, afterAct, afterActs}
+use Rattle.controller.specs.Reads.{emptiedOf}
+use Rattle.controller.proofs.Reading.{after-read}
+use Rattle.frames.specs.Calls.{afterCalls, Wait, clocks, reads, afterWait, Act, waits, strikes, afterAct, afterActs}
 use Rattle.frames.specs.Widths.{RegistersFit}
 use Rattle.frames.specs.Frames.{Region, Placed}
 use Rattle.controller.specs.declared.chip.Controller.{Controller}
 use Rattle.frames.proofs.Frames.{frames}
 use Rattle.frames.proofs.Widths.{reached-fits}
 use Rattle.locator.specs.Cells.{IsCell, cellAt, cellAddressOf, cellLatchOf, fitsOf, fitOf}
-use Rattle.locator.specs.Locate.{refusalOf, cellOf, namedOf, strikeFoundOf, locateOf}
+use Rattle.locator.specs.Locate.{refusalOf, cellOf, namedOf, locateOf}
 use Rattle.demand.specs.Demand.{struckAt, answerTo, Demand3, Demand3Reached}
 use Rattle.locator.specs.declared.cells.Cell.{Cell}
 use Rattle.locator.specs.declared.answer.Located.the-variants.{At, Outside, Several}
@@ -48,36 +50,33 @@ same-or-other c d = go (eqb (c .row) (d .row)) refl (eqb (c .column) (d .column)
     go true p false q = inr (λ e. eqb-false _ _ q (ap (λ (x : Cell). x .column) e))
     go false p b q = inr (λ e. eqb-false _ _ p (ap (λ (x : Cell). x .row) e))
 
--- clocks leave registers and pen, and so what the locator says
-clock-keeps : (n : ℕ) (c : Controller) → (clockOf n c .regs ≡ c .regs) × (clockOf n c .pen ≡ c .pen)
-unfolding clockOf iterate stepOf
-clock-keeps zero c = (refl, refl)
-clock-keeps (suc n) c = clock-keeps n c
+-- clocks and reads leave what the locator goes by: the registers, and of the pen all but L
+clock-answer : (n : ℕ) (c : Controller) → locateOf (clockOf n c) ≡ locateOf c
+unfolding clockOf iterate stepOf locateOf
+clock-answer zero c = refl
+clock-answer (suc n) c = clock-answer n c
 
-clocks-keep : (l : List ℕ) (c : Controller) → (afterActs (map clocks l) c .regs ≡ c .regs) × (afterActs (map clocks l) c .pen ≡ c .pen)
+wait-answer : (w : Wait) (c : Controller) → locateOf (afterWait w c) ≡ locateOf c
+unfolding afterWait emptiedOf locateOf
+wait-answer (clocks n) c = clock-answer n c
+wait-answer (reads rs) c = after-read (λ (d : Controller). locateOf d ≡ locateOf c) c refl refl rs
+
+after-waits : (more : List Wait) (c : Controller) → locateOf (afterActs (map waits more) c) ≡ locateOf c
 unfolding afterActs afterAct
-clocks-keep [] c = (refl, refl)
-clocks-keep (n ∷ l) c =
-    let p = clocks-keep l (clockOf n c) in
-    let q = clock-keeps n c in
-    (p .0 ∙ q .0, p .1 ∙ q .1)
+after-waits [] c = refl
+after-waits (w ∷ more) c = after-waits more (afterWait w c) ∙ wait-answer w c
 
 acts-append : (l m : List Act) (c : Controller) → afterActs (l ++ m) c ≡ afterActs m (afterActs l c)
 unfolding afterActs
 acts-append [] m c = refl
 acts-append (a ∷ l) m c = acts-append l m (afterAct a c)
 
--- what the locator says goes by registers and pen alone
-after-clocks : (more : List ℕ) (c : Controller) → locateOf (afterActs (map clocks more) c) ≡ locateOf c
-unfolding locateOf
-after-clocks more c = let k = clocks-keep more c in ap₂ strikeFoundOf (k .0) (k .1)
-
--- a list of clocks and strikes has no strike, or a last one
+-- a list of acts has no strike, or a last one
 split-last : (l : List Act)
-    → ((more : List ℕ) × (l ≡ map clocks more)) ⊎ ((before : List Act) × (more : List ℕ) × (l ≡ before ++ strikes ∷ map clocks more))
+    → ((more : List Wait) × (l ≡ map waits more)) ⊎ ((before : List Act) × (more : List Wait) × (l ≡ before ++ strikes ∷ map waits more))
 split-last [] = inl ([], refl)
-split-last (clocks n ∷ l) =
-    ⊎-elim (λ q. inl (n ∷ q .0, ap (λ (k : List Act). clocks n ∷ k) (q .1))) (λ q. inr (clocks n ∷ q .0, q .1, ap (λ (k : List Act). clocks n ∷ k) (q .2)))
+split-last (waits w ∷ l) =
+    ⊎-elim (λ q. inl (w ∷ q .0, ap (λ (k : List Act). waits w ∷ k) (q .1))) (λ q. inr (waits w ∷ q .0, q .1, ap (λ (k : List Act). waits w ∷ k) (q .2)))
     (split-last l)
 split-last (strikes ∷ l) =
     ⊎-elim (λ q. inr ([], q .0, ap (λ (k : List Act). strikes ∷ k) (q .1))) (λ q. inr (strikes ∷ q .0, q .1, ap (λ (k : List Act). strikes ∷ k) (q .2)))
@@ -91,18 +90,18 @@ module _ (c : Controller) (w : RegistersFit (c .regs)) where
   narrow = w .each 0 (omega arith)
 
   -- the answer for a last strike, by its place
-  struck : (before : List Act) (more : List ℕ)
+  struck : (before : List Act) (more : List Wait)
       → answerTo c before more
       ≡ (if pictureOf r (struckAt c before) then namedOf (fitOf r (latchOf r (struckAt c before))) else Outside)
   unfolding if_then_else_ afterActs afterAct strikeOf locateOf
   struck before more =
       let b = afterActs before (resetOf c) in
       let f = frames c w in
-      ap locateOf (acts-append before (strikes ∷ map clocks more) (resetOf c))
-      ∙ after-clocks more (strikeOf b)
+      ap locateOf (acts-append before (strikes ∷ map waits more) (resetOf c))
+      ∙ after-waits more (strikeOf b)
       ∙ ap (λ (q : Registers). if pictureOf q (b .scan) then namedOf (fitOf q (latchOf q (b .scan))) else Outside) (f .registers before)
 
-  in-picture : (before : List Act) (more : List ℕ) → pictureOf r (struckAt c before) ≡ true
+  in-picture : (before : List Act) (more : List Wait) → pictureOf r (struckAt c before) ≡ true
       → answerTo c before more ≡ namedOf (fitOf r (latchOf r (struckAt c before)))
   unfolding if_then_else_
   in-picture before more e = struck before more ∙ rw e
@@ -112,7 +111,7 @@ module _ (c : Controller) (w : RegistersFit (c .regs)) where
   demand3 = record {
     frames = frames c w;
     last-strike = split-last;
-    unstruck = λ more. ap refusalOf (after-clocks more (resetOf c));
+    unstruck = λ more. ap refusalOf (after-waits more (resetOf c));
     named = λ before more e u.
         let s = struckAt c before in
         let p = picture-cell r s (frames c w .placed before) e in

@@ -1,6 +1,5 @@
--- Demand 3, whole, of the real controller's calls: a reset, then character clocks and pen strikes in any order, then a locate. No
+-- Demand 3, whole, of the real controller's calls: a reset, then character clocks, reads and pen strikes in any order, then a locate. No
 -- register is written in between (document 01, "One character time", "The locator" and the table of refusals).
-use Prim.Native.Nat.{ℕ}
 use mathlib.Core.Path.{_≡_}
 use mathlib.Core.Bool.{true, false}
 use mathlib.Core.List.{List, _∷_, _++_, map}
@@ -8,7 +7,7 @@ use mathlib.Core.Logic.{_⊎_}
 use Rattle.facts.specs.Facts.{pictureOf, latchOf}
 use Rattle.raster.specs.declared.scan.Scan.{Scan}
 use Rattle.controller.specs.Chip.{freshOf, resetOf}
-use Rattle.frames.specs.Calls.{Call, afterCalls, Act, clocks, strikes, afterActs}
+use Rattle.frames.specs.Calls.{Call, afterCalls, Wait, Act, waits, strikes, afterActs}
 use Rattle.frames.specs.Frames.{Frames}
 use Rattle.controller.specs.declared.chip.Controller.{Controller}
 use Rattle.locator.specs.Cells.{IsCell, cellAt, cellLatchOf}
@@ -20,9 +19,9 @@ use Rattle.locator.specs.declared.answer.Located.{Located}
 abbrev pub struckAt : Controller → List Act → Scan
 struckAt c before = afterActs before (resetOf c) .scan
 
--- the locator's answer when that strike was the last, with clocks only after it
-abbrev pub answerTo : Controller → List Act → List ℕ → Located
-answerTo c before more = locateOf (afterActs (before ++ strikes ∷ map clocks more) (resetOf c))
+-- the locator's answer when that strike was the last, with clocks and reads only after it
+abbrev pub answerTo : Controller → List Act → List Wait → Located
+answerTo c before more = locateOf (afterActs (before ++ strikes ∷ map waits more) (resetOf c))
 
 -- another picture cell would leave the same latch as a strike at s
 pub record Rival (c : Controller) (s : Scan) (d : Cell) : Type 0 where
@@ -35,24 +34,24 @@ pub record Demand3 (c : Controller) : Type 0 where
   -- the first new frame begins after exactly (R0+1) x ((R4+1) x (R9+1) + R5) character times, each later one after as many again,
   -- whatever pens fire (the parts of Frames say so one by one)
   pub frames : Frames c
-  -- clocks and strikes hold no strike at all, or a last one that only clocks follow
+  -- what is done holds no strike at all, or a last one that only clocks and reads follow
   pub last-strike : (l : List Act)
-      → ((more : List ℕ) × (l ≡ map clocks more)) ⊎ ((before : List Act) × (more : List ℕ) × (l ≡ before ++ strikes ∷ map clocks more))
+      → ((more : List Wait) × (l ≡ map waits more)) ⊎ ((before : List Act) × (more : List Wait) × (l ≡ before ++ strikes ∷ map waits more))
   -- no strike since the reset: refused with 5
-  pub unstruck : (more : List ℕ) → refusalOf (locateOf (afterActs (map clocks more) (resetOf c))) ≡ 5
+  pub unstruck : (more : List Wait) → refusalOf (locateOf (afterActs (map waits more) (resetOf c))) ≡ 5
   -- the last strike fell in the picture, and no other picture cell would leave its latch: that very row and column
-  pub named : (before : List Act) (more : List ℕ)
+  pub named : (before : List Act) (more : List Wait)
       → pictureOf (c .regs) (struckAt c before) ≡ true
       → ((d : Cell) → Rival c (struckAt c before) d → ⊥)
       → (refusalOf (answerTo c before more) ≡ 0)
       × (cellOf (answerTo c before more) ≡ cellAt (struckAt c before .row) (struckAt c before .column))
   -- it fell in the picture, and another picture cell would: refused with 8
-  pub shared : (before : List Act) (more : List ℕ)
+  pub shared : (before : List Act) (more : List Wait)
       → pictureOf (c .regs) (struckAt c before) ≡ true
       → (d : Cell) → Rival c (struckAt c before) d
       → refusalOf (answerTo c before more) ≡ 8
   -- it fell outside the picture: refused with 6, though a cell may share the address
-  pub outside : (before : List Act) (more : List ℕ)
+  pub outside : (before : List Act) (more : List Wait)
       → pictureOf (c .regs) (struckAt c before) ≡ false
       → refusalOf (answerTo c before more) ≡ 6
 

@@ -1,3 +1,4 @@
 pub mod Moves
 pub mod Widths
+pub mod Times
 pub mod Frames

@@ -21,8 +21,8 @@ use Rattle.raster.specs.declared.scan.Scan.{Scan}
 use Rattle.raster.specs.declared.sync.Sync.{Sync}
 use Rattle.controller.specs.Writes.{keptOf, addressedOf, storedOf, writtenOf}
 use Rattle.controller.specs.Chip.{noSync, noRegisters, arrivedOf, freshOf, resetOf, writeOf, stepOf, clockOf, strikeOf}
-use Rattle.controller.specs.Reads.{emptiedOf, afterReadOf, registerReadOf, statusReadOf, readOf}
-use Rattle.controller.specs.declared.reads.Reading.{Reading}
+use Rattle.controller.specs.Reads.{emptiedOf}
+use Rattle.controller.proofs.Reading.{after-read}
 use Rattle.frames.specs.Calls.{Call, write, read, clock, strike, reset, afterCall, afterCalls}
 use Rattle.frames.specs.Widths.{RegistersFit, ScanFits, SyncFits, Fits}
 use Rattle.controller.specs.declared.chip.Controller.{Controller}
@@ -124,13 +124,6 @@ module _ (c : Controller) (f : Fits c) where
   unfolding emptiedOf
   emptied-fits = record { regs = f .regs; scan = f .scan; sync = f .sync; latch = f .latch }
 
-  read-fits : (rs : Bool) → Fits (readOf c rs .controller)
-  unfolding readOf registerReadOf statusReadOf afterReadOf
-  read-fits rs =
-      if-both (λ (o : Reading). Fits (o .controller)) rs _ _
-      (λ _. if-both Fits _ _ _ (λ _. emptied-fits) (λ _. f))
-      (λ _. f)
-
   write-fits : (rs : Bool) (v : ℕ) → Fits (writeOf c rs v)
   unfolding writeOf
   write-fits rs v = record { regs = written-fit (c .regs) v (f .regs) rs; scan = f .scan; sync = f .sync; latch = f .latch }
@@ -143,7 +136,7 @@ clock-fits (suc n) c f = step-fits (clockOf n c) (clock-fits n c f)
 call-fits : (a : Call) (c : Controller) → Fits c → Fits (afterCall a c)
 unfolding afterCall resetOf
 call-fits (write rs v) c f = write-fits c f rs v
-call-fits (read rs) c f = read-fits c f rs
+call-fits (read rs) c f = after-read Fits c f (emptied-fits c f) rs
 call-fits (clock n) c f = clock-fits n c f
 call-fits strike c f = strike-fits c f
 call-fits reset c f = arrived-fits (c .regs) (f .regs)

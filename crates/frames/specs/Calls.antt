@@ -27,14 +27,24 @@ unfoldable pub afterCalls : List Call → Controller → Controller
 afterCalls [] c = c
 afterCalls (a ∷ l) c = afterCalls l (afterCall a c)
 
--- what demand 3 allows between a reset and a locate: character clocks and pen strikes, in any order
+-- what moves neither a register nor the pen's strike: character clocks, and reads with RS 0 or 1 (a read of R16 or R17 clears L, no more)
+pub data Wait : Type 0 where
+  clocks : ℕ → Wait
+  reads : Bool → Wait
+
+-- what demand 3 allows between a reset and a locate: such waits and pen strikes, in any order. No register is written.
 pub data Act : Type 0 where
-  clocks : ℕ → Act
+  waits : Wait → Act
   strikes : Act
 
--- the controller after one of them
+-- the controller after a wait
+unfoldable pub afterWait : Wait → Controller → Controller
+afterWait (clocks n) c = clockOf n c
+afterWait (reads rs) c = readOf c rs .controller
+
+-- the controller after one act
 unfoldable pub afterAct : Act → Controller → Controller
-afterAct (clocks n) c = clockOf n c
+afterAct (waits w) c = afterWait w c
 afterAct strikes c = strikeOf c
 
 -- one after the other, the first of the list first
@@ -42,8 +52,13 @@ unfoldable pub afterActs : List Act → Controller → Controller
 afterActs [] c = c
 afterActs (a ∷ l) c = afterActs l (afterAct a c)
 
+-- the character times of an act
+unfoldable pub timesIn : Act → ℕ
+timesIn (waits (clocks n)) = n
+timesIn (waits (reads rs)) = 0
+timesIn strikes = 0
+
 -- how many character times a list of them holds
 unfoldable pub timesOf : List Act → ℕ
 timesOf [] = 0
-timesOf (clocks n ∷ l) = timesOf l + n
-timesOf (strikes ∷ l) = timesOf l
+timesOf (a ∷ l) = timesOf l + timesIn a

@@ -1,5 +1,5 @@
 -- When frames begin, and where the scan can be while no register is written (demand 3; document 01, "One character time").
-use Prim.Native.Nat.{ℕ, zero, suc, _+_, _*_, _%_, _<_, _≤_}
+use Prim.Native.Nat.{ℕ, zero, suc, _+_, _*_, _/_, _%_, _<_, _≤_}
 use mathlib.Core.Path.{_≡_}
 use mathlib.Core.Bool.{Bool, true, false}
 use mathlib.Core.List.{List}
@@ -42,13 +42,15 @@ pub record Placed (r : Registers) (s : Scan) : Type 0 where
   pub start : s .start ≡ startOf r
   pub region : Region r (s .line) (s .row) (s .base) (s .adjusting)
 
--- What holds after a reset, whatever is clocked and struck, as long as no register is written.
+-- What holds after a reset, whatever is clocked, read and struck, as long as no register is written.
 pub record Frames (c : Controller) : Type 0 where
   -- the registers stay
   pub registers : (l : List Act) → afterActs l (resetOf c) .regs ≡ c .regs
-  -- strikes do not move the scan: it is where its character times alone bring it
+  -- strikes and reads do not move the scan: it is where its character times alone bring it
   pub times : (l : List Act) → afterActs l (resetOf c) .scan ≡ iterate (nextOf (c .regs)) (timesOf l) (resetOf c .scan)
   -- a new frame begins at each multiple of the frame's length, and at no other time
   pub begins : (t : ℕ) → (beginsAt (c .regs) (resetOf c .scan) t ≡ true) ↔ ((k : ℕ) × (t ≡ suc k * frameTimes (c .regs)))
+  -- the field counts the frames that have begun, five bits wide
+  pub fields : (t : ℕ) → iterate (nextOf (c .regs)) t (resetOf c .scan) .field ≡ (t / frameTimes (c .regs)) % 32
   -- and the scan never leaves its frame
   pub placed : (l : List Act) → Placed (c .regs) (afterActs l (resetOf c) .scan)
