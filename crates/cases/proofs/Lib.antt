@@ -1,2 +1,1 @@
-pub mod Begins
-pub mod Table
+pub mod Length

@@ -1,5 +1,14 @@
 // The settled cases a to j, run through the public calls. A line for each: its letter, the frame's length in character times, picture,
-// adjusting, MA, latch, and the locator's refusal, row and column. specs/Cases.antt has the same table, and it is proved.
+// adjusting, MA, latch, and the locator's refusal, row and column. What is run, and what is seen of it, are definitions of the crate
+// `settled`, whose table is proved; only the printing has no contract.
+ghost use Prim.Native.Nat.{_%_};
+ghost use mathlib.Core.Bool.{true, false};
+ghost use mathlib.Core.List.{[]};
+ghost use mathlib.Core.Path.{_≡_};
+ghost use lib.ListN.{getD};
+ghost use Rattle.controller.specs.Chip.{writeOf};
+ghost use Rattle.frames.specs.Frames.{frameTimes};
+ghost use Rattle.settled.specs.Cases.{cases, setOf, reachedOf, seenOf};
 use controller::Controller;
 use libc::STDOUT_FILENO;
 use locator::locate;
@@ -18,12 +27,23 @@ const CASES: [[u8; 8]; 10] = [
     [255, 130, 127, 0, 127, 0, 126, 1],
 ];
 
-fn with_register(c: Controller, k: u8, v: u8) -> Controller {
-    c.write(false, k).write(true, v)
+// One case, from 0 for a; past 9 they start again.
+fn numbered(i: u8) -> [u8; 8]
+    ensures { λ r. ⌜ r ≡ getD cases (i % 10) [] ⌝ }
+{
+    CASES[(i % 10) as usize]
 }
 
-// The controller after a reset with a case's setting.
-fn set(k: [u8; 8]) -> Controller {
+fn with_register(c: Controller, n: u8, v: u8) -> Controller
+    ensures { λ r. ⌜ r ≡ writeOf (writeOf c false n) true v ⌝ }
+{
+    c.write(false, n).write(true, v)
+}
+
+// The controller after a reset with a case's registers.
+fn set(k: [u8; 8]) -> Controller
+    ensures { λ r. ⌜ r ≡ setOf k ⌝ }
+{
     let c = with_register(Controller::fresh(), 0, k[0]);
     let c = with_register(c, 1, k[1]);
     let c = with_register(c, 4, k[2]);
@@ -33,21 +53,24 @@ fn set(k: [u8; 8]) -> Controller {
     c.reset()
 }
 
-// Character times until the field counts, by real steps.
-fn frame_length(start: Controller) -> u32 {
-    let mut c = start;
-    let mut t: u32 = 0;
-    while t < 2000000 {
+// Character times until the field counts, one by one.
+fn frame_length(k: [u8; 8]) -> u32
+    ensures { λ r. ⌜ r ≡ frameTimes (setOf k .regs) ⌝ }
+{
+    let start = set(k);
+    let mut c = start.clock(1);
+    let mut t: u32 = 1;
+    while c.scan.field == start.scan.field {
         c = c.clock(1);
         t += 1;
-        if c.scan.field != start.scan.field {
-            return t;
-        }
     }
     t
 }
 
-fn reached(k: [u8; 8], c: Controller) -> Controller {
+// Where a case's clocks and its strike lead.
+fn reached(k: [u8; 8], c: Controller) -> Controller
+    ensures { λ r. ⌜ r ≡ reachedOf k c ⌝ }
+{
     let there = c.clock(k[6] as u16);
     if k[7] == 1 {
         return there.strike();
@@ -55,25 +78,34 @@ fn reached(k: [u8; 8], c: Controller) -> Controller {
     there
 }
 
-fn tell(n: u64) {
-    io::write_all(STDOUT_FILENO, b" ");
-    io::print_decimal(STDOUT_FILENO, n);
-}
-
-fn show(k: [u8; 8]) {
-    let start = set(k);
-    tell(frame_length(start) as u64);
-    let c = reached(k, start);
+// What is seen of a case.
+fn seen(k: [u8; 8]) -> [u32; 8]
+    ensures { λ r. ⌜ r ≡ seenOf k ⌝ }
+{
+    let frame = frame_length(k);
+    let c = reached(k, set(k));
     let o = c.outputs();
     let found = locate(c);
     let cell = found.cell();
-    tell(basics::number(o.picture) as u64);
-    tell(basics::number(c.scan.adjusting) as u64);
-    tell(o.ma as u64);
-    tell(c.pen.latch as u64);
-    tell(found.refusal() as u64);
-    tell(cell.row as u64);
-    tell(cell.column as u64);
+    [
+        frame,
+        basics::number(o.picture) as u32,
+        basics::number(c.scan.adjusting) as u32,
+        o.ma as u32,
+        c.pen.latch as u32,
+        found.refusal() as u32,
+        cell.row as u32,
+        cell.column as u32,
+    ]
+}
+
+fn show(numbers: [u32; 8]) {
+    let mut i: usize = 0;
+    while i < 8 {
+        io::write_all(STDOUT_FILENO, b" ");
+        io::print_decimal(STDOUT_FILENO, numbers[i] as u64);
+        i += 1;
+    }
     io::write_all(STDOUT_FILENO, b"\n");
 }
 
@@ -82,7 +114,7 @@ fn main() {
     while i < 10 {
         let letter = [b'a' + i];
         io::write_all(STDOUT_FILENO, &letter);
-        show(CASES[i as usize]);
+        show(seen(numbered(i)));
         i += 1;
     }
 }

@@ -1,35 +1,48 @@
--- It ends: the invariant bounds t, and the measure is what is left.
-use Prim.Native.Nat.{_≤_, _-_}
+use Prim.Native.Nat.{_-_}
 use borrow.Author.Needs.{needs}
+use native.Mathlib.Omega.{arith}
+use Rattle.frames.specs.Frames.{frameTimes}
+use Rattle.cases.proofs.Length.{Counted, counted-one, counted-more, before, over}
 use Rattle.cases.proofs.frame_length.Statement.{statement}
 use Rattle.cases.proofs.frame_length.Tie as tie
 
 abbrev Inv-loop : tie.InvT-loop
-Inv-loop start c₀ t₀ c t = t ≤ 2000000
+Inv-loop start c₀ t₀ c t = Counted start c t
 
 abbrev μ-loop : tie.MeasureT-loop
-μ-loop start c₀ t₀ c t = 2000000 - t
+μ-loop start c₀ t₀ c t = frameTimes (start .regs) - t
 
-loop-holds : tie.Need-loop-holds Inv-loop μ-loop
-loop-holds c = search needs
+set-requires : tie.Need-set-requires Inv-loop μ-loop
+set-requires c κs = search needs
 
 clock-requires : tie.Need-clock-requires Inv-loop μ-loop
 clock-requires c κs = search needs
 
-add-t : tie.Need-add-t Inv-loop μ-loop
-add-t c = search needs
+loop-holds : tie.Need-loop-holds Inv-loop μ-loop
+loop-holds c = counted-one _ _ _ (c .before .set .ensures) (c .clock .ensures)
 
-returns : tie.Need-returns Inv-loop μ-loop
-returns c = search needs
+clock-requires-2 : tie.Need-clock-requires-2 Inv-loop μ-loop
+clock-requires-2 c κs = search needs
+
+add-t : tie.Need-add-t Inv-loop μ-loop
+add-t c =
+    let at = c .before .before .before .before in
+    omega (arith, before _ _ _ (at .loop .inv) (c .before .if1 .taken))
 
 loop-less : tie.Need-loop-less Inv-loop μ-loop
-loop-less c = search needs
+loop-less c =
+    let at = c .before .before .before .before in
+    omega (arith, before _ _ _ (at .loop .inv) (c .before .if1 .taken))
 
 loop-again : tie.Need-loop-again Inv-loop μ-loop
-loop-again c = search needs
+loop-again c =
+    let at = c .before .before .before .before in
+    counted-more _ _ _ (at .loop .inv) _ (c .before .if1 .taken) (c .clock2 .ensures)
 
-returns-2 : tie.Need-returns-2 Inv-loop μ-loop
-returns-2 c = search needs
+returns : tie.Need-returns Inv-loop μ-loop
+returns c =
+    let at = c .before .before .before in
+    rw (at .before .before .set .ensures) at (over _ _ _ (at .loop .inv) (c .if1 .left))
 
 pub frame-length-spec : {M : Type 1} → statement M
 frame-length-spec =
@@ -37,10 +50,11 @@ frame-length-spec =
     (tie.spec
     Inv-loop
     μ-loop
-    loop-holds
+    set-requires
     clock-requires
+    loop-holds
+    clock-requires-2
     add-t
-    returns
     loop-less
     loop-again
-    returns-2)
+    returns)

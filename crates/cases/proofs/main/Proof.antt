@@ -22,14 +22,11 @@ slice-aggregate-write-all c = search needs
 write-all-requires : tie.Need-write-all-requires Inv-loop μ-loop
 write-all-requires c κs = search needs
 
-cast-show : tie.Need-cast-show Inv-loop μ-loop
-cast-show c = search needs
+numbered-requires : tie.Need-numbered-requires Inv-loop μ-loop
+numbered-requires c κs = search needs
 
-mul-show : tie.Need-mul-show Inv-loop μ-loop
-mul-show c = search needs
-
-array-copy-out-show : tie.Need-array-copy-out-show Inv-loop μ-loop
-array-copy-out-show c = search needs
+seen-requires : tie.Need-seen-requires Inv-loop μ-loop
+seen-requires c κs = search needs
 
 show-requires : tie.Need-show-requires Inv-loop μ-loop
 show-requires c κs = search needs
@@ -56,9 +53,8 @@ main-spec =
     add-t4
     slice-aggregate-write-all
     write-all-requires
-    cast-show
-    mul-show
-    array-copy-out-show
+    numbered-requires
+    seen-requires
     show-requires
     add-i
     loop-less

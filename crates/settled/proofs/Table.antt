@@ -9,12 +9,16 @@ use Rattle.basics.specs.Iterate.{iterate}
 use Rattle.raster.specs.Scan.{lineEndOf, moveOf, movedOf, nextOf}
 use Rattle.raster.specs.Sync.{hsyncOf, vsyncStartsOf, vsyncWidthOf, vsyncOf, arriveOf}
 use Rattle.facts.specs.Facts.{pictureOf, addressOf, maOf, latchOf, blinkOf, cursorLineOf, cursorOf, factsOf}
-use Rattle.controller.specs.Chip.{arrivedOf, stepOf, clockOf, strikeOf}
+use Rattle.controller.specs.Chip.{arrivedOf, freshOf, resetOf, writeOf, stepOf, clockOf, strikeOf}
+use Rattle.controller.specs.Writes.{addressedOf, storedOf, writtenOf}
 use Rattle.controller.specs.Pins.{pinOf, outputsOf}
+use Rattle.frames.specs.Calls.{afterCall, afterCalls}
+use Rattle.frames.proofs.Frames.{frames}
+use Rattle.frames.proofs.Widths.{reached-fits}
 use Rattle.locator.specs.Cells.{cellsFrom, cellAddressOf, cellLatchOf, fitsOf, keep, theFit, fitOf}
 use Rattle.locator.specs.Locate.{namedOf, locateOf}
-use Rattle.cases.proofs.Begins.{begins}
-use Rattle.cases.specs.Cases.{setting, A, tall, reached, looked, seen, waits, cases, settled, Settled}
+use Rattle.settled.specs.Cases as cases
+use Rattle.settled.specs.Cases.{writesOf, reachedOf, lookedOf, seenOf, cases, settled, Settled}
 
 infixr 20 _then_
 _then_ : {x y : List ℕ} {xs ys : List (List ℕ)} → x ≡ y → xs ≡ ys → x ∷ xs ≡ y ∷ ys
@@ -22,10 +26,10 @@ _then_ p q = ap₂ (λ (a : List ℕ) (l : List (List ℕ)). a ∷ l) p q
 
 -- one row of the table, its case against what was settled. Each is shown by itself: h, i and j go over 16,000 cells each.
 abbrev Row : ℕ → Type 0
-Row k = seen (getD cases k (waits A 0)) ≡ getD settled k []
+Row k = seenOf (getD cases k []) ≡ getD settled k []
 
-shown : map seen cases ≡ settled
-unfolding if_then_else_ iterate lineEndOf moveOf movedOf nextOf hsyncOf vsyncStartsOf vsyncWidthOf vsyncOf arriveOf pictureOf addressOf maOf latchOf blinkOf cursorLineOf cursorOf factsOf arrivedOf stepOf clockOf strikeOf pinOf outputsOf count cellsFrom cellAddressOf cellLatchOf fitsOf keep theFit fitOf namedOf locateOf setting A tall reached looked seen cases settled
+shown : map seenOf cases ≡ settled
+unfolding if_then_else_ iterate lineEndOf moveOf movedOf nextOf hsyncOf vsyncStartsOf vsyncWidthOf vsyncOf arriveOf pictureOf addressOf maOf latchOf blinkOf cursorLineOf cursorOf factsOf arrivedOf freshOf resetOf writeOf stepOf clockOf strikeOf addressedOf storedOf writtenOf pinOf outputsOf afterCall afterCalls count cellsFrom cellAddressOf cellLatchOf fitsOf keep theFit fitOf namedOf locateOf cases.writtenOf reachedOf lookedOf seenOf
 shown = a then b then c then d then e then f then g then h then i then j then refl
   where
     a : Row 0
@@ -59,4 +63,5 @@ shown = a then b then c then d then e then f then g then h then i then j then re
     j = refl
 
 pub table : Settled
-table = record { table = shown; frames = begins }
+unfolding cases.writtenOf
+table = record { table = shown; frames = λ k. frames (cases.writtenOf k) (reached-fits (writesOf k) .regs) }

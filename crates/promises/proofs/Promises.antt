@@ -1,0 +1,170 @@
+-- Every promise of docs/PROMISES.md, restated with its whole type and without a premise of its own making, and the proof that it cites.
+-- A proof that assumes what it shows, or shows less, does not fit here. Assumes nothing.
+use Prim.Native.Nat.{ℕ}
+use mathlib.Core.Path.{_≡_}
+use mathlib.Core.Bool.{true}
+use mathlib.Core.List.{List}
+use lib.ListN.{length}
+use denote.Ref.{now}
+use Rattle.basics.specs.Lay.{laidAt}
+use Rattle.controller.specs.Chip.{freshOf, resetOf, writeOf, clockOf, strikeOf}
+use Rattle.controller.specs.Pins.{outputsOf}
+use Rattle.controller.specs.Reads.{readOf}
+use Rattle.frames.specs.Calls.{Call, afterCalls}
+use Rattle.frames.specs.Widths.{Fits}
+use Rattle.frames.proofs.Widths.{reached-fits}
+use Rattle.locator.specs.Locate.{locateOf}
+use Rattle.demand.specs.Demand.{Demand3Reached}
+use Rattle.demand.proofs.Demand.{demand3-reached}
+use Rattle.control.specs.Write.{isControlOf, OneBitWritten}
+use Rattle.control.specs.declared.bits.Control.{Control}
+use Rattle.control.proofs.Written.{one-bit-written}
+use Rattle.multiplexer.specs.Chip.{busOf, fetchesOf, levelsOf}
+use Rattle.visits.specs.Refresh.{SixteenFallsVisitAllRows, CounterKeepsItsWidth}
+use Rattle.visits.specs.Picture.{Pictures}
+use Rattle.visits.proofs.AllRows.{all-rows, keeps-its-width}
+use Rattle.visits.proofs.Pictures.{pictures}
+use Rattle.record.specs.Decode.{decodeOf}
+use Rattle.record.specs.Refusals.{Refusals as RecordRefusals}
+use Rattle.record.proofs.Refusals.{refusals as record-refusals}
+use Rattle.bench.specs.Step.{stepOf}
+use Rattle.bench.specs.Refusals.{Refusals as BenchRefusals}
+use Rattle.bench.specs.Alone.{AsOnTheBench}
+use Rattle.bench.specs.declared.step.Bench.{Bench}
+use Rattle.bench.proofs.Refusals.{refusals as bench-refusals}
+use Rattle.bench.proofs.OnTheBench.{as-on-the-bench}
+use Rattle.replay.specs.Run.{runOf, replayOf, outputOf}
+use Rattle.replay.specs.Rest.{restOf, restAt}
+use Rattle.replay.specs.Laws.{Sound, Runs}
+use Rattle.replay.proofs.Runs.{sound, runs}
+use Rattle.text.specs.Speech.{saidOf}
+use Rattle.lister.specs.Listing.{listingOf}
+use Rattle.lister.specs.Rooms.{roomTextOf}
+use Rattle.settled.specs.Cases.{Settled}
+use Rattle.settled.specs.Premises.{Premises}
+use Rattle.settled.proofs.Table.{table}
+use Rattle.settled.proofs.Premises.{premises}
+use Rattle.record.proofs.decode.Reads as record·decode
+use Rattle.replay.proofs.replay.Reads as replay·replay
+use Rattle.replay.proofs.unread_rest.Reads as replay·unread-rest
+use Rattle.lister.proofs.list.Reads as lister·list
+use Rattle.lister.proofs.room.Reads as lister·room
+use Rattle.text.proofs.said.Reads as text·said
+use Rattle.bench.proofs.step.Bench.step.Reads as bench·step
+use Rattle.controller.proofs.chip.Controller.clock.Reads as controller·clock
+use Rattle.controller.proofs.chip.Controller.fresh.Reads as controller·fresh
+use Rattle.controller.proofs.chip.Controller.outputs.Reads as controller·outputs
+use Rattle.controller.proofs.chip.Controller.read.Reads as controller·read
+use Rattle.controller.proofs.chip.Controller.reset.Reads as controller·reset
+use Rattle.controller.proofs.chip.Controller.strike.Reads as controller·strike
+use Rattle.controller.proofs.chip.Controller.write.Reads as controller·write
+use Rattle.multiplexer.proofs.chip.Multiplexer.bus.Reads as multiplexer·bus
+use Rattle.multiplexer.proofs.chip.Multiplexer.fetches.Reads as multiplexer·fetches
+use Rattle.multiplexer.proofs.chip.Multiplexer.levels.Reads as multiplexer·levels
+use Rattle.locator.proofs.locate.Reads as locator·locate
+use Rattle.promises.specs.States.{States}
+
+-- ---- demand 1
+
+pub record-decoded : States record·decode.Post (λ κs a r s. r ≡ decodeOf (a .0) (a .1 .0) (a .1 .1 .0) (a .1 .1 .1 .0))
+record-decoded κs a r s p = p
+
+pub record-refused : (kind hi lo value : ℕ) → RecordRefusals kind hi lo value
+record-refused = record-refusals
+
+pub refused-unmoved : (b : Bench) (kind hi lo value : ℕ) → BenchRefusals b kind hi lo value
+refused-unmoved = bench-refusals
+
+pub replay-answer : States replay·replay.Post (λ κs a r s. r ≡ replayOf (now (a .0)) (now (a .1 .0)) (a .1 .1 .0) (a .1 .1 .1 .0))
+replay-answer κs a r s p = p .0
+
+pub replay-ends : (batch : List ℕ) (room : ℕ) (b : Bench) → Sound batch room (runOf batch room b)
+replay-ends = sound
+
+pub replay-output : States replay·replay.Post (λ κs a r s. (now (s .1 .0) ≡ outputOf (now (a .0)) (now (a .1 .0)) (a .1 .1 .0) (a .1 .1 .1 .0)) × (now (s .0) ≡ now (a .0)))
+replay-output κs a r s p = p .1
+
+pub replay-parts : (b : Bench) (room : ℕ) → Runs b room
+replay-parts = runs
+
+pub rest-bytes : States replay·unread-rest.Post (λ κs a r s. now r ≡ restOf (now (a .0)) (a .1 .0))
+rest-bytes κs a r s p = p .0
+
+pub rest-place : States replay·unread-rest.Post (λ κs a r s. r .ptr ≡ restAt (a .0 .ptr) (now (a .0)) (a .1 .0))
+rest-place κs a r s p = p .1 .0
+
+pub listing-text : States lister·list.Post (λ κs a r s. (r ≡ length (listingOf (now (a .0)))) × (now (s .1 .0) ≡ laidAt (now (a .1 .0)) 0 (listingOf (now (a .0)))))
+listing-text κs a r s p = (p .0, p .1 .0)
+
+pub room-text : States lister·room.Post (λ κs a r s. (r ≡ length (roomTextOf (now (a .0)))) × (now (s .1 .0) ≡ laidAt (now (a .1 .0)) 0 (roomTextOf (now (a .0)))))
+room-text κs a r s p = (p .0, p .1 .0)
+
+pub text-said : States text·said.Post (λ κs a r s. r ≡ saidOf (a .0) (now (a .1 .0)))
+text-said κs a r s p = p .0
+
+-- ---- demand 2
+
+pub record-stepped : States bench·step.Post (λ κs a r s. r ≡ stepOf (a .0) (a .1 .0) (a .1 .1 .0) (a .1 .1 .1 .0) (a .1 .1 .1 .1 .0))
+record-stepped κs a r s p = p
+
+pub alone-as-on-the-bench : (b : Bench) (hi lo value : ℕ) → AsOnTheBench b hi lo value
+alone-as-on-the-bench = as-on-the-bench
+
+pub clocks-counted : States controller·clock.Post (λ κs a r s. r ≡ clockOf (a .1 .0) (a .0))
+clocks-counted κs a r s p = p
+
+pub outputs-shown : States controller·outputs.Post (λ κs a r s. r ≡ outputsOf (a .0))
+outputs-shown κs a r s p = p
+
+pub register-written : States controller·write.Post (λ κs a r s. r ≡ writeOf (a .0) (a .1 .0) (a .1 .1 .0))
+register-written κs a r s p = p
+
+pub register-read : States controller·read.Post (λ κs a r s. r ≡ readOf (a .0) (a .1 .0))
+register-read κs a r s p = p
+
+pub pen-struck : States controller·strike.Post (λ κs a r s. r ≡ strikeOf (a .0))
+pen-struck κs a r s p = p
+
+pub controller-reset : States controller·reset.Post (λ κs a r s. r ≡ resetOf (a .0))
+controller-reset κs a r s p = p
+
+pub power-on : States controller·fresh.Post (λ κs a r s. r ≡ freshOf)
+power-on κs a r s p = p
+
+pub widths-kept : (l : List Call) → Fits (afterCalls l freshOf)
+widths-kept = reached-fits
+
+pub bus-cycle : States multiplexer·bus.Post (λ κs a r s. r ≡ busOf (a .0) (a .1 .0) (a .1 .1 .0))
+bus-cycle κs a r s p = p
+
+pub display-fetches : States multiplexer·fetches.Post (λ κs a r s. r ≡ fetchesOf (a .0) (a .1 .0))
+display-fetches κs a r s p = p
+
+pub sync-levels : States multiplexer·levels.Post (λ κs a r s. r ≡ levelsOf (a .0) (a .1 .0) (a .1 .1 .0))
+sync-levels κs a r s p = p
+
+pub one-bit : (c : Control) (a : ℕ) → isControlOf a ≡ true → OneBitWritten c a
+one-bit = one-bit-written
+
+pub every-row-refreshed : SixteenFallsVisitAllRows
+every-row-refreshed = all-rows
+
+pub refresh-counter-kept : CounterKeepsItsWidth
+refresh-counter-kept = keeps-its-width
+
+pub pictures-walked : Pictures
+pictures-walked = pictures
+
+-- ---- demand 3
+
+pub demand-three : Demand3Reached
+demand-three = demand3-reached
+
+pub strike-located : States locator·locate.Post (λ κs a r s. r ≡ locateOf (a .0))
+strike-located κs a r s p = p
+
+pub cases-settled : Settled
+cases-settled = table
+
+pub premises-met : Premises
+premises-met = premises

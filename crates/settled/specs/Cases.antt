@@ -1,0 +1,94 @@
+-- The settled cases a to j (document 01, "Settled cases") as one table: registers written, a reset, clocks, a strike or none, and what is
+-- seen then.
+use Prim.Native.Nat.{ℕ}
+use mathlib.Core.Path.{_≡_}
+use mathlib.Core.List.{List, [], _∷_, map}
+use mathlib.Core.Bool.{true, false}
+use lib.Dec.{eqb}
+use lib.ListN.{getD}
+use Rattle.basics.specs.Choice.{if_then_else_}
+use Rattle.basics.specs.Bits.{num}
+use Rattle.controller.specs.Chip.{freshOf, resetOf, clockOf, strikeOf}
+use Rattle.controller.specs.Pins.{outputsOf}
+use Rattle.controller.specs.declared.chip.Controller.{Controller}
+use Rattle.frames.specs.Calls.{Call, write, afterCalls}
+use Rattle.frames.specs.Frames.{frameTimes, Frames}
+use Rattle.locator.specs.Locate.{refusalOf, cellOf, locateOf}
+
+-- A case is eight numbers: what is written to R0, R1, R4, R5, R6 and R9 (all others stay 0), how many clocks, and 1 for a strike.
+abbrev pub at : List ℕ → ℕ → ℕ
+at k i = getD k i 0
+
+-- register n named, and v written to it
+abbrev pub put : ℕ → ℕ → List Call → List Call
+put n v more = write false n ∷ write true v ∷ more
+
+-- a case's writes
+abbrev pub writesOf : List ℕ → List Call
+writesOf k = put 0 (at k 0) (put 1 (at k 1) (put 4 (at k 2) (put 5 (at k 3) (put 6 (at k 4) (put 9 (at k 5) [])))))
+
+-- the controller that they make of the fresh one
+unfoldable pub writtenOf : List ℕ → Controller
+writtenOf k = afterCalls (writesOf k) freshOf
+
+-- the case begins with a reset
+abbrev pub setOf : List ℕ → Controller
+setOf k = resetOf (writtenOf k)
+
+-- and comes to this controller, by its clocks and its strike
+unfoldable pub reachedOf : List ℕ → Controller → Controller
+reachedOf k c = if eqb (at k 7) 1 then strikeOf (clockOf (at k 6) c) else clockOf (at k 6) c
+
+-- what is looked at: the picture fact, adjusting, MA, the latch, and the locator's refusal, row and column
+unfoldable pub lookedOf : Controller → List ℕ
+lookedOf c =
+    num (outputsOf c .picture) ∷ num (c .scan .adjusting) ∷ outputsOf c .ma ∷ c .pen .latch
+    ∷ refusalOf (locateOf c) ∷ cellOf (locateOf c) .row ∷ cellOf (locateOf c) .column ∷ []
+
+-- what is seen of a case: its frame's length in character times, and then that
+unfoldable pub seenOf : List ℕ → List ℕ
+seenOf k = frameTimes (setOf k .regs) ∷ lookedOf (reachedOf k (setOf k))
+
+-- setting A, with so many clocks, and 1 for a strike
+abbrev pub inA : ℕ → ℕ → List ℕ
+inA clocks strike = 3 ∷ 2 ∷ 1 ∷ 1 ∷ 2 ∷ 1 ∷ clocks ∷ strike ∷ []
+
+-- the tall picture of h, i and j, by its R1, with so many clocks and a strike
+abbrev pub inTall : ℕ → ℕ → List ℕ
+inTall r1 clocks = 255 ∷ r1 ∷ 127 ∷ 0 ∷ 127 ∷ 0 ∷ clocks ∷ 1 ∷ []
+
+-- a to j, in order
+abbrev pub cases : List (List ℕ)
+cases =
+    inA 0 0
+    ∷ (0 ∷ 0 ∷ 0 ∷ 0 ∷ 0 ∷ 0 ∷ 0 ∷ 0 ∷ [])
+    ∷ (255 ∷ 0 ∷ 127 ∷ 31 ∷ 0 ∷ 31 ∷ 0 ∷ 0 ∷ [])
+    ∷ inA 1 1
+    ∷ inA 2 1
+    ∷ inA 8 1
+    ∷ inA 16 0
+    ∷ inTall 129 0
+    ∷ inTall 130 0
+    ∷ inTall 130 126
+    ∷ []
+
+-- frame, picture, adjusting, MA, latch, refusal, row, column
+abbrev pub settled : List (List ℕ)
+settled =
+    (20 ∷ 1 ∷ 0 ∷ 0 ∷ 0 ∷ 5 ∷ 0 ∷ 0 ∷ [])
+    ∷ (1 ∷ 0 ∷ 0 ∷ 0 ∷ 0 ∷ 5 ∷ 0 ∷ 0 ∷ [])
+    ∷ (1056512 ∷ 0 ∷ 0 ∷ 0 ∷ 0 ∷ 5 ∷ 0 ∷ 0 ∷ [])
+    ∷ (20 ∷ 1 ∷ 0 ∷ 1 ∷ 3 ∷ 0 ∷ 0 ∷ 1 ∷ [])
+    ∷ (20 ∷ 0 ∷ 0 ∷ 2 ∷ 4 ∷ 6 ∷ 0 ∷ 0 ∷ [])
+    ∷ (20 ∷ 1 ∷ 0 ∷ 2 ∷ 4 ∷ 0 ∷ 1 ∷ 0 ∷ [])
+    ∷ (20 ∷ 0 ∷ 1 ∷ 4 ∷ 0 ∷ 5 ∷ 0 ∷ 0 ∷ [])
+    ∷ (32768 ∷ 1 ∷ 0 ∷ 0 ∷ 2 ∷ 0 ∷ 0 ∷ 0 ∷ [])
+    ∷ (32768 ∷ 1 ∷ 0 ∷ 0 ∷ 2 ∷ 8 ∷ 0 ∷ 0 ∷ [])
+    ∷ (32768 ∷ 1 ∷ 0 ∷ 126 ∷ 128 ∷ 0 ∷ 0 ∷ 126 ∷ [])
+    ∷ []
+
+-- What the cases show is what document 01 settled. And the lengths among it are those that the scan keeps to: after a reset with any
+-- such numbers written, new frames begin at the multiples of that length and at no other time.
+pub record Settled : Type 0 where
+  pub table : map seenOf cases ≡ settled
+  pub frames : (k : List ℕ) → Frames (writtenOf k)

@@ -1,0 +1,63 @@
+-- Demand 3 promises nothing empty: each of its premises is met, by a settled case that register writes lead to from power-on.
+use Prim.Native.Nat.{ℕ, suc, _%_, _^_}
+use mathlib.Core.Path.{_≡_}
+use mathlib.Core.Bool.{true, false}
+use mathlib.Core.List.{List, [], _∷_}
+use lib.ListN.{getD}
+use Rattle.raster.specs.Registers.{widths}
+use Rattle.facts.specs.Facts.{pictureOf, latchOf}
+use Rattle.controller.specs.Chip.{freshOf, resetOf, writeOf}
+use Rattle.controller.specs.declared.chip.Controller.{Controller}
+use Rattle.frames.specs.Calls.{Call, afterCalls, clocks, reads, Act, waits, strikes, afterActs}
+use Rattle.locator.specs.Cells.{IsCell, cellAt, cellLatchOf}
+use Rattle.locator.specs.declared.cells.Cell.{Cell}
+use Rattle.demand.specs.Demand.{struckAt, Rival}
+use Rattle.settled.specs.Cases.{put, writtenOf, inA, inTall}
+
+-- setting A, and the tall picture with R1 130, as written
+abbrev pub A : Controller
+A = writtenOf (inA 0 0)
+
+abbrev pub Tall : Controller
+Tall = writtenOf (inTall 130 0)
+
+-- so many clocks
+abbrev pub waited : ℕ → List Act
+waited n = waits (clocks n) ∷ []
+
+-- setting A with R16 named, so that a read with RS 1 reads the latch; after a strike, and after a strike and that read
+abbrev pub struck : Controller
+struck = afterActs (strikes ∷ []) (resetOf (writeOf A false 16))
+
+abbrev pub struckAndRead : Controller
+struckAndRead = afterActs (strikes ∷ waits (reads true) ∷ []) (resetOf (writeOf A false 16))
+
+-- numbers written to the registers from the k-th on, one after the other
+abbrev pub writesFrom : ℕ → List ℕ → List Call
+writesFrom k [] = []
+writesFrom k (v ∷ l) = put k v (writesFrom (suc k) l)
+
+-- and what the registers keep of them: the low bits of each register's width
+abbrev pub keptFrom : ℕ → List ℕ → List ℕ
+keptFrom k [] = []
+keptFrom k (v ∷ l) = v % 2 ^ getD widths k 0 ∷ keptFrom (suc k) l
+
+-- Every premise of demand 3, met.
+pub record Premises : Type 0 where
+  -- case d: a strike in the picture that no other cell rivals
+  pub inside : pictureOf (A .regs) (struckAt A (waited 1)) ≡ true
+  pub alone : (d : Cell) → Rival A (struckAt A (waited 1)) d → ⊥
+  -- case e: one outside it, and a cell that shares its latch, the one of case f
+  pub outside : pictureOf (A .regs) (struckAt A (waited 2)) ≡ false
+  pub cell : IsCell (A .regs) (cellAt 1 0)
+  pub shares : cellLatchOf (A .regs) (cellAt 1 0) ≡ latchOf (A .regs) (struckAt A (waited 2))
+  -- case i: one in the picture that another cell rivals
+  pub inside-too : pictureOf (Tall .regs) (struckAt Tall []) ≡ true
+  pub rival : Rival Tall (struckAt Tall []) (cellAt 126 4)
+  -- a read that changes something: L, which the strike set
+  pub full : struck .pen .full ≡ true
+  pub emptied : struckAndRead .pen .full ≡ false
+  -- every setting can be reached: sixteen numbers written are held, each cut to its register's width
+  pub settings : (v0 v1 v2 v3 v4 v5 v6 v7 v8 v9 v10 v11 v12 v13 v14 v15 : ℕ)
+      → (let l = v0 ∷ v1 ∷ v2 ∷ v3 ∷ v4 ∷ v5 ∷ v6 ∷ v7 ∷ v8 ∷ v9 ∷ v10 ∷ v11 ∷ v12 ∷ v13 ∷ v14 ∷ v15 ∷ [] in
+      afterCalls (writesFrom 0 l) freshOf .regs .held ≡ keptFrom 0 l)
