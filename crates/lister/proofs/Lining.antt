@@ -13,7 +13,7 @@ use Rattle.answer.specs.Answer.{bytesOf}
 use Rattle.answer.specs.declared.Answer.{Answer}
 use Rattle.replay.specs.Run.{writtenOf}
 use Rattle.lister.specs.Lines.{answerOf, oddOf, lineOf, linesOf, answerLinesOf}
-use Rattle.lister.specs.Listing.{Counts}
+use Rattle.text.specs.Speech.{Counts}
 
 -- the line of the eight bytes that stand in such a place
 abbrev lineAt : Bool → ℕ → List ℕ → List ℕ

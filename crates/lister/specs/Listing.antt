@@ -1,9 +1,8 @@
 -- What the listing program prints (document 01, "Records and what comes back").
-use Prim.Native.Nat.{ℕ, _+_, _≤_}
-use mathlib.Core.Path.{_≡_}
+use Prim.Native.Nat.{ℕ, _+_}
 use mathlib.Core.List.{List, [], _∷_, _++_}
 use lib.Dec.{ltb}
-use lib.ListN.{length, take}
+use lib.ListN.{length}
 use Rattle.basics.specs.Choice.{if_then_else_}
 use Rattle.bench.specs.declared.step.Bench.{Bench}
 use Rattle.controller.specs.Chip as controller
@@ -34,7 +33,3 @@ batchListingOf batch = listedOf (runOf batch 8192 freshBench)
 -- more than 4,096 bytes are not replayed at all
 unfoldable pub listingOf : List ℕ → List ℕ
 listingOf input = if ltb 4096 (length input) then tooLong else batchListingOf input
-
--- n bytes at the front of a text. The second part follows from the first: with both, a caller's `&text[..n]` needs no proof.
-abbrev pub Counts : ℕ → List ℕ → Type 0
-Counts n text = (n ≤ length text) × (n ≡ length (take n text))

@@ -5,7 +5,7 @@ ghost use Prim.Native.Nat.{_+_, _*_, _/_, _≤_};
 ghost use lib.ListN.{length};
 ghost use Rattle.basics.specs.Lay.{Laid, laidAt};
 ghost use Rattle.lister.specs.Lines.{lineOf};
-ghost use Rattle.lister.specs.Listing.{Counts};
+ghost use Rattle.text.specs.Speech.{Counts};
 ghost use Rattle.lister.specs.Rooms.{roomOf, countsOf, restLineOf, allLinesOf, shownOf, roomTextOf};
 use crate::lines::line;
 use crate::lines::lines;

@@ -1,4 +1,6 @@
-// Bytes as text: two lowercase hex digits each.
+// Texts: bytes as two lowercase hex digits each, and how much of a text a program says.
 mod hex;
+mod speech;
 
 pub use hex::put_hex;
+pub use speech::said;
