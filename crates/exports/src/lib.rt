@@ -1,5 +1,5 @@
 // The calls that programs in other languages link, each by value and over plain data: the controller's, the locator's answer as numbers,
-// and the display counter. tools/speed/proved.h declares them for C.
+// and the display counter. include/vorstelpijp.h declares them for C.
 ghost use mathlib.Core.Path.{_≡_};
 ghost use Rattle.controller.specs.Chip.{resetOf, clockOf, strikeOf};
 ghost use Rattle.locator.specs.Locate.{locateOf};
