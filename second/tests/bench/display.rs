@@ -61,6 +61,41 @@ fn every_mode_wraps_its_upper_bits() {
 }
 
 #[test]
+fn a_record_of_65535_fetches_reaches_the_address_reckoned_by_hand() {
+    // B3 falls 4,095 times, and a last time with the fetch after.
+    let reached = [
+        (170 * 32 + 31, 170 * 32),
+        (682 * 32 + 31, 682 * 32 + 16),
+        (682 * 32 + 31, 682 * 32),
+        (1_023 * 32 + 31, 1_024 * 32),
+        (1_023 * 32 + 31, 1_024 * 32),
+        (65_535, 0),
+        (65_535, 0),
+        (65_535, 0),
+    ];
+    for (mode, (longest, one_more)) in (0..8).zip(reached) {
+        let mut trial = in_mode(mode);
+        assert_eq!(trial.fetched(65_535), longest, "mode {mode}");
+        assert_eq!(trial.fetched(1), one_more, "mode {mode}");
+    }
+    assert_eq!(in_mode(0).fetch(65_535), [0x15, 0x5F, 1, 31, 21, 1]);
+    assert_eq!(in_mode(7).fetch(65_535), [0xFF, 0xFF, 1, 63, 63, 1]);
+}
+
+#[test]
+fn a_record_of_65535_fetches_is_one_of_65534_and_one_fetch() {
+    for mode in 0..8 {
+        let mut at_once = in_mode(mode);
+        let mut in_two = at_once;
+        let seen = at_once.fetch(65_535);
+        in_two.fetch(65_534);
+        assert_ne!(in_two.bench, at_once.bench, "mode {mode}");
+        assert_eq!(in_two.fetch(1), seen, "mode {mode}");
+        assert_eq!(in_two.bench, at_once.bench, "mode {mode}");
+    }
+}
+
+#[test]
 fn mode_001_divides_by_3_between_b3_and_b4() {
     let mut trial = in_mode(1);
     assert_eq!(trial.fetched(16), 0);

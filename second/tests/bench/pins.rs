@@ -79,6 +79,44 @@ fn the_cursor_lines_run_from_r10_to_r11_both_included() {
 }
 
 #[test]
+fn a_first_cursor_line_of_16_or_more_shows_the_cursor_from_that_line_on() {
+    for first in 15..32u8 {
+        for last in first..32 {
+            let settings = [(1, 1), (6, 1), (9, 31), (10, first), (11, last)];
+            let expected: Vec<bool> = (0..32).map(|line| first <= line && line <= last).collect();
+            assert_eq!(
+                shown(&mut Trial::with(&settings), CURSOR, 32),
+                expected,
+                "lines {first} to {last}"
+            );
+        }
+    }
+}
+
+#[test]
+fn a_first_cursor_line_of_16_is_not_reached_in_rows_of_16_lines() {
+    let mut trial = Trial::with(&[(1, 1), (4, 1), (6, 2), (9, 15), (10, 16), (11, 31)]);
+    assert_eq!(shown(&mut trial, CURSOR, 32), [false; 32]);
+}
+
+#[test]
+fn a_first_cursor_line_of_16_leaves_the_blink_bits_alone() {
+    for (blink, fields_shown) in [(0b00, 32), (0b01, 0), (0b10, 8), (0b11, 16)] {
+        let r10 = blink << 5 | 16;
+        let mut trial = Trial::with(&[(1, 1), (6, 1), (9, 16), (10, r10), (11, 16)]);
+        for field in 0..16 {
+            let mut expected = [false; 17];
+            expected[16] = field < fields_shown;
+            assert_eq!(
+                shown(&mut trial, CURSOR, 17),
+                expected,
+                "blink {blink:02b}, field {field}"
+            );
+        }
+    }
+}
+
+#[test]
 fn the_display_enable_pin_may_run_one_character_late() {
     let mut trial = Trial::with(&[(0, 3), (1, 2), (4, 1), (6, 2), (8, LATE_DISPLAY)]);
     let picture = [true, true, false, false, true, true, false, false, true];
@@ -129,6 +167,68 @@ fn a_late_pin_shows_the_character_as_it_was_judged_on_leaving() {
     trial.clocks(1);
     trial.set(1, 2);
     assert_eq!(trial.now().flags & (both | PICTURE), PICTURE);
+}
+
+#[test]
+fn no_write_after_a_character_is_left_changes_a_late_pin() {
+    let both = DISPLAY_ENABLE | CURSOR;
+    let delays = [
+        (LATE_DISPLAY, DISPLAY_ENABLE),
+        (LATE_CURSOR, CURSOR),
+        (LATE_DISPLAY | LATE_CURSOR, both),
+    ];
+    // The cursor is on the first of two characters in the picture.
+    let left = [(0, 0), (1, both), (2, DISPLAY_ENABLE), (3, 0)];
+    for (late, pins) in delays {
+        for (clocks, facts) in left {
+            let mut start = Trial::with(&[(0, 3), (1, 2), (6, 1), (8, late)]);
+            start.clocks(clocks);
+            for (register, value) in (0..16).flat_map(|r| [0, 1, 2, 0x5A, 0xFF].map(|v| (r, v))) {
+                let mut trial = start;
+                let value = if register == 8 { value | late } else { value };
+                trial.set(register, value);
+                assert_eq!(
+                    trial.now().flags & pins,
+                    facts & pins,
+                    "R{register} made {value} after {clocks} clocks, R8 {late}"
+                );
+            }
+        }
+    }
+}
+
+#[test]
+fn a_late_pin_goes_by_the_last_write_before_a_character_is_left() {
+    let late = LATE_DISPLAY | LATE_CURSOR;
+    let both = DISPLAY_ENABLE | CURSOR;
+    for (arrived, left, pins) in [(2, 0, 0), (0, 2, both)] {
+        let mut trial = Trial::with(&[(0, 3), (1, arrived), (6, 1), (8, late)]);
+        assert_eq!(trial.now().flags & both, 0);
+        trial.set(1, left);
+        assert_eq!(trial.now().flags & both, 0);
+        assert_eq!(trial.clocks(1).flags & both, pins);
+        trial.set(1, arrived);
+        assert_eq!(trial.now().flags & both, pins);
+    }
+}
+
+#[test]
+fn no_clocks_change_nothing_whatever_was_written_before_them() {
+    let late = LATE_DISPLAY | LATE_CURSOR;
+    let settings = [(0, 3), (1, 2), (3, 0x12), (4, 1), (5, 2), (6, 2), (8, late)];
+    let mut plain = Trial::with(&settings);
+    let mut interrupted = plain;
+    for time in 0..50 {
+        // The cursor moves through the picture and beyond it.
+        plain.set(15, time % 7);
+        interrupted.set(15, time % 7);
+        let written = interrupted.bench;
+        let seen = interrupted.now();
+        assert_eq!(interrupted.now(), seen, "time {time}");
+        assert_eq!(interrupted.bench, written, "time {time}");
+        assert_eq!(interrupted.clocks(1), plain.clocks(1), "time {time}");
+        assert_eq!(interrupted.bench, plain.bench, "time {time}");
+    }
 }
 
 #[test]

@@ -110,6 +110,45 @@ fn the_program_takes_4098_bytes_with_a_room_and_no_more() {
     prints_room(&[0; 4_099], "too long\n");
 }
 
+/// 1,024 records with answers nearly all different: the three V bits set, then
+/// single fetches.
+fn longest_batch() -> (Vec<u8>, Vec<String>) {
+    let mut batch = Vec::new();
+    let mut answers = Vec::new();
+    for low in [0xC1, 0xC3, 0xC5] {
+        batch.extend([6, 0xFF, low, 0]);
+        answers.push(String::from("0600071004000000\n"));
+    }
+    for address in 1..=1_021 {
+        batch.extend([7, 0, 1, 0]);
+        let (row, column) = (address % 64, address / 64);
+        answers.push(format!("0700{address:04x}00{row:02x}{column:02x}01\n"));
+    }
+    (batch, answers)
+}
+
+#[test]
+fn the_program_takes_a_batch_of_4096_bytes_whole_into_a_room() {
+    let (batch, answers) = longest_batch();
+    assert_eq!((batch.len(), answers.len()), (4_096, 1_024));
+    let whole = String::from("0010000400000000\n") + &answers.concat();
+    for room in [8_192, 8_193, u16::MAX] {
+        prints_room(&input(room, &batch), &whole);
+    }
+    let too_long = [&batch[..], &[7]].concat();
+    prints_room(&input(8_192, &too_long), "too long\n");
+}
+
+#[test]
+fn the_program_leaves_the_last_record_of_4096_bytes_when_it_is_broken_or_has_no_room() {
+    let (batch, answers) = longest_batch();
+    let all_but_one = answers[..1_023].concat();
+    let broken = String::from("030ffc03ff000000\n") + &all_but_one + "a5a5a5a5a5a5a5a5\n";
+    prints_room(&input(8_192, &batch[..4_095]), &broken);
+    let full = String::from("040ffc03ff000000\n") + &all_but_one;
+    prints_room(&input(8_184, &batch), &full);
+}
+
 #[test]
 fn the_program_tells_of_both_modes() {
     prints_with(&["--help"], &[], HELP);

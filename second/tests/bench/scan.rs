@@ -4,6 +4,9 @@ use crate::trial::{Trial, CURSOR, DISPLAY_ENABLE, PICTURE, SETTING_A, VSYNC};
 
 const SHOWN: u8 = PICTURE | DISPLAY_ENABLE;
 
+/// 256 characters to a line and 32 lines to a row; a frame of 128 such rows.
+const LONG: [(u8, u8); 5] = [(0, 255), (1, 100), (4, 127), (6, 127), (9, 31)];
+
 #[test]
 fn three_frames_of_setting_a_character_by_character() {
     // Memory address, line and flags of each of the 20 character times.
@@ -43,6 +46,38 @@ fn many_clocks_in_one_record_are_as_many_single_clocks() {
 }
 
 #[test]
+fn a_record_of_65535_clocks_reaches_the_place_reckoned_by_hand() {
+    // 255 lines and 255 characters; the lines are seven rows and 31 lines more.
+    let mut trial = Trial::with(&LONG);
+    let seen = trial.clocks(65_535);
+    assert_eq!((seen.ma, seen.ra, seen.flags), (7 * 100 + 255, 31, 0));
+    assert_eq!((trial.column(), trial.line(), trial.row()), (255, 31, 7));
+    let next = trial.clocks(1);
+    assert_eq!((next.ma, next.ra, next.flags), (8 * 100, 0, SHOWN));
+    assert_eq!((trial.column(), trial.line(), trial.row()), (0, 0, 8));
+
+    // 3,276 frames of 20, which is 12 beyond whole rounds of 32, and 15 more.
+    let mut trial = Trial::with(&SETTING_A);
+    let seen = trial.clocks(65_535);
+    assert_eq!((seen.ma, seen.ra, seen.flags), (5, 1, VSYNC));
+    assert_eq!((trial.column(), trial.line(), trial.row()), (3, 1, 1));
+    assert_eq!(trial.field(), 12);
+}
+
+#[test]
+fn a_record_of_65535_clocks_is_one_of_65534_and_one_clock() {
+    for settings in [&LONG[..], &SETTING_A[..]] {
+        let mut at_once = Trial::with(settings);
+        let mut in_two = at_once;
+        let seen = at_once.clocks(65_535);
+        in_two.clocks(65_534);
+        assert_ne!(in_two.bench, at_once.bench);
+        assert_eq!(in_two.clocks(1), seen);
+        assert_eq!(in_two.bench, at_once.bench);
+    }
+}
+
+#[test]
 fn a_lowered_r0_lets_the_column_run_through_255() {
     let mut trial = Trial::with(&[(0, 10), (4, 5)]);
     trial.clocks(8);
@@ -69,6 +104,48 @@ fn a_lowered_r9_lets_the_line_run_through_31() {
     assert_eq!(trial.row(), 0);
     assert_eq!(trial.clocks(1).ra, 0);
     assert_eq!(trial.row(), 1);
+}
+
+#[test]
+fn below_the_line_reached_r9_ends_the_row_only_after_the_line_has_wrapped() {
+    let start = Trial::with(&[(0, 2), (1, 3), (4, 5), (6, 6), (9, 10)]);
+    for lowered in 0..8u8 {
+        // Row 1, line 8, column 1.
+        let mut trial = start;
+        trial.clocks(3 * 11 + 3 * 8 + 1);
+        trial.set(9, lowered);
+        let lines = (8..32).chain(0..=lowered);
+        let places = lines.flat_map(|line| (0..3).map(move |column| (line, column)));
+        for (line, column) in places.skip(1) {
+            let seen = trial.now();
+            let wanted = (3 + column, line, SHOWN);
+            assert_eq!((seen.ma, seen.ra, seen.flags & SHOWN), wanted, "{lowered}");
+            assert_eq!((trial.row(), trial.column()), (1, column), "{lowered}");
+            trial.clocks(1);
+        }
+        assert_eq!((trial.now().ma, trial.now().ra, trial.row()), (6, 0, 2));
+    }
+}
+
+#[test]
+fn lowered_to_the_very_line_reached_r9_ends_the_row_with_that_line() {
+    let mut trial = Trial::with(&[(0, 2), (4, 5), (9, 10)]);
+    assert_eq!(trial.clocks(3 * 8).ra, 8);
+    trial.set(9, 8);
+    trial.clocks(2);
+    assert_eq!((trial.line(), trial.row()), (8, 0));
+    trial.clocks(1);
+    assert_eq!((trial.line(), trial.row()), (0, 1));
+}
+
+#[test]
+fn below_the_line_reached_r9_puts_off_the_end_of_the_frame() {
+    let mut trial = Trial::with(&[(9, 31)]);
+    trial.clocks(30);
+    trial.set(9, 29);
+    // Lines 30 and 31, then the whole row over again.
+    assert_eq!(trial.measure_frame(), 2 + 30);
+    assert_eq!(trial.measure_frame(), 30);
 }
 
 #[test]

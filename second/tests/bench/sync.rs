@@ -65,6 +65,35 @@ fn an_hsync_match_with_width_0_ends_a_running_pulse() {
 }
 
 #[test]
+fn an_hsync_match_with_width_0_ends_whatever_is_left_of_a_pulse() {
+    // The pulse begun at column 2 would run to column 16.
+    for column in 4..=16 {
+        let mut trial = Trial::with(&[(0, 31), (2, 2), (3, 15)]);
+        assert!(trial.clocks(3).shows(HSYNC));
+        // Only VSYNC's half of R3 is left with a width.
+        trial.set_all(&[(2, column), (3, 0xF0)]);
+        let expected: Vec<usize> = (0..usize::from(column) - 3).collect();
+        assert_eq!(
+            times_shown(&mut trial, HSYNC, 60),
+            expected,
+            "match at column {column}"
+        );
+    }
+}
+
+#[test]
+fn hsync_width_0_ends_a_pulse_at_the_match_and_not_when_written() {
+    // A pulse of six in lines of four, and width 0 written at column 2.
+    let mut trial = Trial::with(&[(0, 3), (2, 1), (3, 6)]);
+    assert!(trial.clocks(6).shows(HSYNC));
+    trial.set(3, 0);
+    let mut without_match = trial;
+    without_match.set(2, 4);
+    assert_eq!(times_shown(&mut trial, HSYNC, 20), [0, 1, 2]);
+    assert_eq!(times_shown(&mut without_match, HSYNC, 20), [0, 1, 2, 3, 4]);
+}
+
+#[test]
 fn hsync_longer_than_a_line_never_falls() {
     let mut trial = Trial::with(&[(0, 3), (2, 1), (3, 6)]);
     let expected: Vec<usize> = (1..40).collect();
