@@ -4,8 +4,8 @@ so that any batch of any run can be made again."""
 import random
 from typing import NamedTuple
 
-from . import controller, multiplexer
-from .records import MOST_BATCH_BYTES, RECORD_BYTES, counted, joined, record
+from . import controller, corners, multiplexer
+from .records import GREATEST_FIELDS, MOST_BATCH_BYTES, RECORD_BYTES, counted, joined, record
 
 ANSWER_BYTES = 8
 MOST_ROOM = 8192
@@ -60,14 +60,30 @@ def well_formed(rng):
     return joined(any_record(rng) for _ in range(rng.randint(20, 300)))
 
 
+def just_past(rng, one):
+    """A record with one field that is one more than its kind allows."""
+    limits = [(place, most) for place, most in enumerate(GREATEST_FIELDS[one[0]], start=1) if most < 255]
+    place, most = rng.choice(limits)
+    return one[:place] + bytes((most + 1,)) + one[place + 1:]
+
+
+def one_byte_changed(rng, one):
+    """A record with any one byte changed, often to a small number."""
+    place = rng.randrange(RECORD_BYTES)
+    value = rng.choice((0, 1, 2, 3, 10, 128, rng.randrange(256)))
+    return one[:place] + bytes((value,)) + one[place + 1:]
+
+
 def nearly_well_formed(rng):
-    """Allowed records, but in some one byte is changed, often just past what is allowed."""
+    """Allowed records, but some have one byte changed, often to just past what is allowed."""
     parts = []
     for _ in range(rng.randint(50, 300)):
-        one = bytearray(any_record(rng))
-        if rng.randrange(3) == 0:
-            one[rng.randrange(RECORD_BYTES)] = rng.choice((0, 1, 2, 3, 10, 128, rng.randrange(256)))
-        parts.append(bytes(one))
+        one, draw = any_record(rng), rng.randrange(6)
+        if draw == 0:
+            one = one_byte_changed(rng, one)
+        elif draw == 1:
+            one = just_past(rng, one)
+        parts.append(one)
     return joined(parts)
 
 
@@ -158,40 +174,59 @@ def in_room(room, batch):
 
 def rooms(rng):
     """A room for the answers and a batch to replay into it: the ways to run out of room (ending 4)."""
-    draw = rng.randrange(40)
-    if draw == 0:
-        return any_bytes(rng, rng.randrange(2))  # not even a whole number for the room
-    if draw < 6:
+    draw = rng.randrange(12)
+    if draw < 2:
         batch = cut_short(rng)  # bytes left over and no room left: 3 comes before 4
         return in_room(needed_room(batch) + rng.randrange(ANSWER_BYTES), batch)
-    if draw == 6:
-        batch = over_long(rng)
-    elif draw < 10:
+    if draw == 2:
         batch = rng.choice((full, empty))(rng)
     else:
         batch = rng.choice((some_good_batch, some_good_batch, damaged))(rng)
     return in_room(some_room(rng, needed_room(batch)), batch)
 
 
+def full_rooms(rng):
+    """The longest batch, with room for all its answers."""
+    return in_room(rng.choice((MOST_ROOM, MOST_ROOM, MOST_ROOM + 1, 65535)), full(rng))
+
+
+def over_long_rooms(rng):
+    """A room, and a batch that is too long for any."""
+    return in_room(rng.choice((0, MOST_ROOM, rng.randrange(65536))), over_long(rng))
+
+
+def nameless_rooms(rng):
+    """Not even the two bytes that say how much room there is."""
+    return any_bytes(rng, rng.randrange(2))
+
+
 # How many of each hundred batches are of each sort.
 SHARES = {
-    random_bytes: 5,
-    well_formed: 10,
+    random_bytes: 4,
+    well_formed: 8,
     nearly_well_formed: 4,
-    controller.pictures: 20,
+    controller.pictures: 15,
     controller.collisions: 8,
     controller.no_cell_fits: 4,
     controller.outside_the_picture: 4,
     controller.register_widths: 3,
-    multiplexer.multiplexer_work: 14,
+    corners.greatest_counts: 2,
+    corners.reloaded_pulses: 2,
+    corners.late_pins: 3,
+    corners.cursor_lines: 2,
+    multiplexer.multiplexer_work: 12,
     both_chips: 4,
-    damaged: 5,
+    damaged: 4,
     cut_short: 3,
     empty: 1,
     full: 1,
     over_long: 2,
-    rooms: 12,
+    rooms: 11,
+    full_rooms: 1,
+    over_long_rooms: 1,
+    nameless_rooms: 1,
 }
+ROOM_SORTS = (rooms, full_rooms, over_long_rooms, nameless_rooms)
 
 
 def dealt():
@@ -210,5 +245,5 @@ def make_batch(seed, number):
     """The batch with this number of the run with this seed; numbers start at 1."""
     sort = DEAL[(number - 1) % len(DEAL)]
     rng = random.Random(f"{seed} {number}")
-    program = "rooms" if sort is rooms else "listing"
+    program = "rooms" if sort in ROOM_SORTS else "listing"
     return Batch(number, sort.__name__.replace("_", " "), program, sort(rng))

@@ -127,6 +127,15 @@ def lowered_frame_end(rng, setting):
     return reached + put(4, low) + strike_and_look(rng) + run_through
 
 
+def lowered_row_end(rng, setting):
+    """R9 lowered below the line that the scan has reached, so that the line runs through 31."""
+    high = rng.randint(2, 31)
+    line = rng.randint(1, high)
+    reached = put(9, high) + reset_controller() + clocks(line_length(setting) * line)
+    setting[9] = rng.randrange(line)
+    return reached + put(9, setting[9]) + strike_and_look(rng) + clocks(line_length(setting)) * rng.randint(20, 34)
+
+
 def lowered_adjust_end(rng, setting):
     """R5 lowered below the adjust line that the scan has reached, so that the line runs through 31."""
     to_adjusting = to_cell(setting, setting[4] + 1, 0)
@@ -134,6 +143,9 @@ def lowered_adjust_end(rng, setting):
     setting[5] = rng.randrange(4)
     later = clocks(line_length(setting) * rng.randint(3, 5)) + put(5, setting[5])
     return reached + later + clocks(line_length(setting)) * rng.randint(26, 40)
+
+
+LOWERED_ENDS = (lowered_line_end, lowered_row_end, lowered_frame_end, lowered_adjust_end)
 
 
 def at_the_cursor(rng, setting):
@@ -166,7 +178,7 @@ def picture_action(rng, setting):
     if draw < 92:
         return reset_controller()
     if draw < 94:
-        return rng.choice((lowered_line_end, lowered_adjust_end, lowered_frame_end))(rng, setting)
+        return rng.choice(LOWERED_ENDS)(rng, setting)
     return at_the_cursor(rng, setting)
 
 

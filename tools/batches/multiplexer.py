@@ -35,10 +35,11 @@ def some_address(rng):
 
 
 def all_regions(rng):
-    """A cycle in every region, in an order that does not matter, each a read or a write."""
+    """Cycles at the first and the last place of every region and at one of its places, each a read or a write."""
     return b"".join(
-        bus(rng.randint(first, after - 1), rng.randrange(2))
+        bus(address, rng.randrange(2))
         for first, after in zip(BORDERS, BORDERS[1:])
+        for address in (first, rng.randint(first, after - 1), after - 1)
     )
 
 

@@ -6,7 +6,7 @@ import re
 from . import SORT_NAMES
 from .records import KIND_NAMES, RECORD_BYTES
 
-ENOUGH = 20  # times that a whole run has to see each kind and each refusal
+ENOUGH = 10  # times that a whole run has to see each kind and each refusal; any seeds give far more
 REFUSAL_NAMES = {
     0: "done",
     1: "kind is 0 or above 9",

@@ -13,6 +13,18 @@ KIND_NAMES = {
     8: "HS and DA0 levels",
     9: "locate",
 }
+# The greatest values that are allowed in the three fields of each kind.
+GREATEST_FIELDS = {
+    1: (0, 1, 255),
+    2: (0, 1, 0),
+    3: (255, 255, 0),
+    4: (0, 0, 0),
+    5: (0, 1, 0),
+    6: (255, 255, 1),
+    7: (255, 255, 0),
+    8: (0, 1, 1),
+    9: (0, 0, 0),
+}
 
 
 def record(kind, high=0, low=0, data=0):

@@ -2,32 +2,17 @@
 import collections
 import re
 
-from commands import TOP, CannotRun, attempt, need, quietly
-from .machine import say
+from commands import TOP, attempt
+from kit import TARGET, c_compiler, compile_c, link, need_archive, prove_archive
+from .progress import say
 
 SOURCES = TOP / "tools" / "speed"
 ROOM = TOP / "target" / "bench"
-ARCHIVE = TOP / "target" / "staticlib" / "libexports.a"
-TARGET = "x86_64-unknown-linux-gnu"
 RUST_WORDS = ["rustc", "--edition", "2021", "--crate-type", "lib", "-C", "opt-level=3", "-C", "panic=abort",
               "-C", "codegen-units=1", "-C", "relocation-model=pic"]
 
 # program: the path; rust, c: words on how each side was made; rust is None and lacks says why, where there is no Rust
 Built = collections.namedtuple("Built", "program rust c lacks")
-
-
-def prove_archive():
-    """The proved calls as an archive that C and Rust link."""
-    say("proving and building crates/exports (minutes where nothing is proved yet)")
-    quietly(["rt", "staticlib", "exports"])
-
-
-def c_compiler(kit):
-    """The words of a C compiler for x86-64 at full optimisation: gcc there, the kit's clang elsewhere."""
-    if kit.emulator:
-        return [kit.toolchain / "bin" / "clang", f"--target={TARGET}", "-O3", "-fPIC"]
-    need("gcc")
-    return ["gcc", "-O3", "-fPIC"]
 
 
 def version_of(words):
@@ -82,24 +67,18 @@ def compile_rust(kit, out):
     return rust_through_clang(kit, source, out)
 
 
-def compile_c(compiler, name, out, more=()):
-    """One C file."""
-    quietly(compiler + ["-std=c99", "-Wall", "-Wextra", *more, "-c", SOURCES / name, "-o", out])
-
-
 def build(kit, prove):
     """All of it."""
     if prove:
+        say("proving and building crates/exports (minutes where nothing is proved yet)")
         prove_archive()
-    if not ARCHIVE.is_file():
-        raise CannotRun(f"{ARCHIVE.relative_to(TOP)} is missing; run tools/bench without --no-build")
+    need_archive("tools/bench")
     say("compiling the plain sides")
     ROOM.mkdir(parents=True, exist_ok=True)
     harness, plain, rust, program = (ROOM / name for name in ("harness.o", "plain-c.o", "plain-rust.o", "program"))
     made, lacks = compile_rust(kit, rust)
     compiler = c_compiler(kit)
-    compile_c(compiler, "plain.c", plain)
-    compile_c(compiler, "harness.c", harness, [] if made else ["-DNO_RUST"])
-    quietly([kit.linker, "--target", TARGET, "--toolchain", kit.toolchain, "-o", program,
-             harness, plain, *([rust] if made else []), ARCHIVE])
+    compile_c(compiler, SOURCES / "plain.c", plain)
+    compile_c(compiler, SOURCES / "harness.c", harness, [] if made else ["-DNO_RUST"])
+    link(kit, program, [harness, plain, *([rust] if made else [])])
     return Built(program, made, f"{version_of(compiler)}, -O3", lacks)

@@ -2,7 +2,7 @@
 #ifndef PLAIN_H
 #define PLAIN_H
 
-#include "proved.h"
+#include "vorstelpijp.h"
 
 /* Where the scan is, with its sync counts. */
 struct place { struct scan scan; struct sync sync; };

@@ -4,7 +4,8 @@ import subprocess
 import time
 
 from commands import TOP, CannotRun, attempt
-from .machine import Differs, environment, running, say
+from kit import environment, running
+from .progress import Differs, say
 
 LISTING = TOP / "target" / "bin" / "listing"
 SECOND = TOP / "second" / "target" / "release" / "second"

@@ -1,6 +1,9 @@
-/* The proved code as C sees it: the structs and calls of crates/exports, field by field in the same order. */
-#ifndef PROVED_H
-#define PROVED_H
+/*
+ * The proved code as C sees it: the structs and calls of crates/exports, field by field in the same order. 'rt staticlib exports'
+ * makes target/staticlib/libexports.a, for x86-64, to link with. tools/check-linked holds these declarations to the proved ones.
+ */
+#ifndef VORSTELPIJP_H
+#define VORSTELPIJP_H
 
 typedef unsigned char u8;
 typedef unsigned short u16;
@@ -11,6 +14,7 @@ struct sync { u8 hsync, vsync; };
 struct facts { _Bool picture, cursor; };
 struct pen { u16 latch; _Bool inside, struck, full; };
 
+/* Zeroed and then reset, it is as after power-on. A host writes regs itself, and cuts each byte to the bits that its register has. */
 struct controller {
     struct registers regs;
     struct scan scan;

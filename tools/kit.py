@@ -1,25 +1,18 @@
-"""The machine, and the toolchain's kit on it."""
+"""The machine, the toolchain's kit on it, and how a C program for x86-64 is built over the proved archive and run."""
 import collections
 import os
 import pathlib
 import platform
-import sys
 
-from commands import CannotRun, attempt, need
+from commands import TOP, CannotRun, attempt, need, quietly
 
 DIRECT = "x86_64"  # the kind of machine that proved code is compiled for
+TARGET = "x86_64-unknown-linux-gnu"
+INCLUDE = TOP / "include"
+ARCHIVE = TOP / "target" / "staticlib" / "libexports.a"
 
 # emulator: None on the kind of machine that runs proved code directly
 Kit = collections.namedtuple("Kit", "machine toolchain linker emulator")
-
-
-class Differs(Exception):
-    """Two sides that should come to the same result do not."""
-
-
-def say(words):
-    """Tells how far the run is."""
-    print(f"bench: {words}", file=sys.stderr, flush=True)
 
 
 def find_kit():
@@ -39,6 +32,35 @@ def find_kit():
         if not os.access(emulator, os.X_OK):
             raise CannotRun(f"the kit at {home} has no emulator for {machine}, and proved code is for {DIRECT}")
     return Kit(machine, own / "toolchain", own / "bin" / "rattle-link", emulator)
+
+
+def prove_archive():
+    """The proved calls as an archive that C and Rust link."""
+    quietly(["rt", "staticlib", "exports"])
+
+
+def need_archive(tool):
+    """Sees that the archive is there; tool is what makes it."""
+    if not ARCHIVE.is_file():
+        raise CannotRun(f"{ARCHIVE.relative_to(TOP)} is missing; run {tool} without --no-build")
+
+
+def c_compiler(kit):
+    """The words of a C compiler for x86-64 at full optimisation: gcc there, the kit's clang elsewhere."""
+    if kit.emulator:
+        return [kit.toolchain / "bin" / "clang", f"--target={TARGET}", "-O3", "-fPIC"]
+    need("gcc")
+    return ["gcc", "-O3", "-fPIC"]
+
+
+def compile_c(compiler, source, out, more=()):
+    """One C file."""
+    quietly(compiler + ["-std=c99", "-Wall", "-Wextra", "-I", INCLUDE, *more, "-c", source, "-o", out])
+
+
+def link(kit, program, objects):
+    """The objects and the proved archive as one program for x86-64."""
+    quietly([kit.linker, "--target", TARGET, "--toolchain", kit.toolchain, "-o", program, *objects, ARCHIVE])
 
 
 def running(kit, program):

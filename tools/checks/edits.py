@@ -1,0 +1,268 @@
+"""Must-fail edits: where they may edit, and that the prover refuses each for a fact and not for its shape.
+
+An edit that takes away a name which a proof uses, or changes how many arguments something takes, is refused whatever it says, and shows
+nothing. So after the proofs each edit's log is read: its first refusal has to be of a class of facts, and none of a class of shapes.
+"""
+import collections
+import dataclasses
+import re
+
+from checks import antt, crates, source
+
+FOLDERS = ("src", "specs")
+PARTS = ("src", "specs", "proofs")
+CHECKED = "logic=not-proved"
+
+# Refusals that only follow from another one in the same log.
+FOLLOWS = (
+    r"^error: `[^`]+`: `[^`]+` was not admitted \(it has holes or undetermined implicits, or was rejected\), so this cannot be checked$",
+    r"^fn: not proved; it calls .*, which (?:is|are) not proved$",
+    r"^fn: no proof: expected `[^`]+` in \S+; it calls .*, which (?:is|are) not proved$",
+    r"^fn: not proved$",
+)
+
+# Needs that are not there, or stand in the place of others, since a call, a branch or a loop came or went: (class, pattern). A proof's
+# `..-spec` only hands its needs over, so an error of its own there is one of these too.
+NEEDS = (
+    ("a definition that is not well formed", r"^error in specs: "),
+    ("a need that is not there", r"has no `Need-"),
+    ("a need in the place of another", r"expected type `[^`]*\bNeed-[^`]*`,? but this has type `[^`]*\bNeed-"),
+    ("needs handed over otherwise", r"^error: `[^`]+-spec`: "),
+    ("a statement of another form", r"^(?![\s\S]*computed as far as they go, the two types)error: `[^`]+`: as printed, the two types first"
+                                    r" differ where one has `[^`]*`\s*\(expected\), at the start,? and the other has `(?:mathlib\.Core\.Path\._≡_|Path)`"),
+)
+
+# Refusals that any edit of the same shape would meet, whatever it says: (class, pattern).
+SHAPES = (
+    ("a field that is not there", r"has no field|has no constructor|has no member|has no `[^`]*` that can be named from here"),
+    ("a name that is not there", r"` is not in scope|is not a (?:name|definition|module|library)\b|be named from here|cannot be named here"),
+    ("a name that is not there", r"is private|did you mean|no such (?:name|module|file)|not found|cannot be had here"),
+    ("another number of arguments", r"takes \d+ (?:argument|field|parameter)|but is given|is applied to an argument"),
+    ("another number of arguments", r"room for only|which is not a function|too (?:many|few) (?:arguments|patterns|parameters)|binds \d+"),
+    ("no case for it", r"missing case|no clause|not exhaustive|does not cover"),
+    ("text that cannot be read", r"syntax|stopped before the end|does not parse|parse error|unexpected|expected an? (?:atomic )?expression"),
+    ("a file that is missing", r"cannot (?:be )?read|no such file|there is no file|is missing"),
+    ("a bound of the prover", r"met a bound|step limit|took more than|limit was met|could not tell"),
+    ("nothing left to rewrite", r"no occurrence"),
+    ("a test turned round, or a fact of another form", r"the two types are `|a dimension \(.*\) is expected here"),
+    ("no proof to look at", r"^fn: no proof(?!: expected `[^`]+` in \S+; `search` does not close )"),
+)
+
+# Refusals of a fact: (class, pattern, what it says). The loose ones are tried last, when no shape fits.
+FACTS = (
+    ("returns", r"^note: it is not proved that what the function ensures holds when it returns",
+     "what a function promises does not follow"),
+    ("safety", r"^note: it is not proved that ",
+     "a sum, an index or a cast that may fail"),
+    ("search", r"^error: `[^`]+`: `search`: no proof of `",
+     "a search over the tests that were made finds no proof"),
+    ("open", r"^fn: no proof: expected `[^`]+` in \S+; `search` does not close ",
+     "the function whose promise does not follow"),
+    ("omega", r"^error: `[^`]+`: `omega`: the (?:goal|part `[^`]+` of the goal) does not follow from what it read\."
+              r" All of that holds, and the (?:goal|part) fails, at ",
+     "numbers for which it fails are named"),
+    ("differ", r"^error: `[^`]+`: (?:computed as far as they go|as printed), the two types (?:first differ|differ only) where one has ",
+     "what is promised and what is given differ in a value"),
+    ("rewrite", r"^error: `[^`]+`: give a proof of that as the last argument, `(?:rw|simp) L t`",
+     "the two sides of an equation are not equal"),
+)
+LOOSE = (("type", r"^error: `[^`]+`: expected type `", "what is promised and what is given are two statements"),)
+
+
+class BadEdit(Exception):
+    """An edit that cannot be tried; it says why."""
+
+
+@dataclasses.dataclass(frozen=True)
+class Pair:
+    """One replacement: the file below the crate's folder, the text and what takes its place."""
+
+    file: str
+    old: str
+    new: str
+
+
+def pairs_of(text):
+    """The replacements of an edit, as rt reads them: a `file:` line holds for the pairs after it."""
+    file = old = ""
+    for line in text.splitlines():
+        if line.startswith("file: "):
+            file = line[len("file: ") :]
+        elif line.startswith("old: "):
+            old = line[len("old: ") :]
+        elif line.startswith("new:"):
+            new = line[len("new:") :]
+            yield Pair(file, old, new[1:] if new.startswith(" ") else new)
+            old = ""
+
+
+def words_of(file, text):
+    """What a file says, without comments and white space."""
+    if file.endswith(".rt"):
+        try:
+            return [token.text for token in source.tokens_of(text)]
+        except source.Unreadable:
+            return text.split()
+    return antt.without_comments(text).split()
+
+
+def replaced(text, pair):
+    """A file's text with one replacement made."""
+    if not pair.old or text.count(pair.old) != 1:
+        raise BadEdit(f"its `old:` text is in {pair.file} {text.count(pair.old) if pair.old else 0} times, and not once")
+    return text.replace(pair.old, pair.new)
+
+
+def edited(folder, text):
+    """The files that an edit changes, by their names below the crate's folder, as they are after it."""
+    files = {}
+    for pair in pairs_of(text):
+        words = pair.file.split("/")
+        if words[0] not in FOLDERS or len(words) < 2 or any(word in ("", ".", "..") for word in words):
+            raise BadEdit(f"`file: {pair.file}` is no file in src/ or specs/")
+        path = folder / pair.file
+        if not path.is_file() or path.is_symlink():
+            raise BadEdit(f"there is no file {pair.file}")
+        before = files.get(pair.file, path.read_text())
+        after = replaced(before, pair)
+        if words_of(pair.file, before) == words_of(pair.file, after):
+            raise BadEdit(f"it changes nothing of {pair.file} but comments or white space")
+        files[pair.file] = after
+    if not files:
+        raise BadEdit("it has no `old:` and `new:` pair")
+    for name, after in files.items():
+        if words_of(name, after) == words_of(name, (folder / name).read_text()):
+            raise BadEdit(f"all in all it changes nothing of {name}")
+    return files
+
+
+def edits_of(top):
+    """The edits of the listed crates, as paths, and what else lies where edits belong."""
+    names = crates.listed(top)[0]
+    found, wrong = [], []
+    for path in sorted((top / "crates").rglob("*.edit")):
+        if path.parent.name != "must-fail" or path.parent.parent.parent != top / "crates" or path.parent.parent.name not in names:
+            wrong.append(f"{path.relative_to(top)}: an edit here is not tried; they belong into crates/NAME/must-fail/ of a listed crate")
+        else:
+            found.append(path)
+    for path in sorted((top / "crates").glob("*/must-fail/*")):
+        if path.suffix != ".edit" or not path.is_file():
+            wrong.append(f"{path.relative_to(top)}: no must-fail edit")
+    return found, wrong
+
+
+def check_static(top):
+    """What is wrong with the edits themselves, and how many there are."""
+    found, wrong = edits_of(top)
+    for path in found:
+        try:
+            edited(path.parent.parent, path.read_text())
+        except BadEdit as why:
+            wrong.append(f"{path.relative_to(top)}: {why}")
+    return wrong, len(found)
+
+
+def refusals_of(log):
+    """What a log says against the crate: each error with the lines below it, each note that something is not proved, each function."""
+    said, open_error = [], False
+    for line in log.split("\n"):
+        error = re.match(r"(\S+):\d+:\d+: error: (.*)", line) or re.match(r"(error):? ?(.*)", line)
+        note = re.match(r"note: \S+:\d+:\d+: (it is not proved .*)", line)
+        item = re.match(r"(?:fn|struct|enum) [^ ]+: (.*)", line)
+        if open_error and line.startswith("  "):
+            said[-1] += "\n" + line.strip()
+            continue
+        open_error = bool(error)
+        if error:
+            specs = re.search(r"/must-fail/[^/]+/[^/]+/specs/", error.group(1))
+            said.append(f"error{' in specs' if specs else ''}: {error.group(2)}")
+        elif note:
+            said.append("note: " + note.group(1))
+        elif item:
+            if item.group(1) != "proved":
+                said.append("fn: " + item.group(1))
+        elif re.search(r"\berror\b", line.partition("`")[0]) and not line.startswith((" ", "note: ", "help: ")):
+            said.append("error: " + line)
+    return said
+
+
+def class_of(refusal):
+    """The kind and the class of one refusal: follows, shape, fact, or unknown."""
+    head = refusal.split("\n")[0]
+    if any(re.search(pattern, head) for pattern in FOLLOWS):
+        return "follows", ""
+    tables = (("shape", NEEDS, refusal), ("fact", FACTS, head), ("shape", SHAPES, outside_quotes(head)), ("fact", LOOSE, head))
+    for kind, table, text in tables:
+        for name, pattern, *_ in table:
+            if re.search(pattern, text):
+                return kind, name
+    return "unknown", ""
+
+
+def outside_quotes(refusal):
+    """A refusal with its quoted terms made short, so that a term's own words are not taken for the prover's."""
+    parts = refusal.split("`")
+    parts[1::2] = [part if re.fullmatch(r"[\w-]*", part) else ".." for part in parts[1::2]]
+    return "`".join(parts)
+
+
+def check_log(log, pairs=1):
+    """The class of a log's first refusal, and what is wrong with the log. Of several replacements each has to be refused for a fact."""
+    if not re.search(rf"^{CHECKED}", log, re.M):
+        return "", ["its log does not say that the prover refused it"]
+    first, wrong, facts = "", [], 0
+    for refusal in refusals_of(log):
+        kind, name = class_of(refusal)
+        if kind == "shape":
+            wrong.append(f"refused for its shape ({name}), which shows nothing: {shown(refusal)}")
+        elif kind == "unknown":
+            wrong.append(f"refused by what is not known to be a fact: {shown(refusal)}")
+        elif kind == "fact":
+            first = first or name
+            facts += name != "open"  # that a function is open is said beside the fact itself
+    if not first and not wrong:
+        wrong.append("its log names no fact that it is refused for")
+    elif facts < pairs:
+        wrong.append(f"it makes {pairs} replacements, and its log names {facts} facts: one of them may be hidden behind another")
+    return first, wrong
+
+
+def shown(refusal):
+    """As much of a refusal as a reader needs to find it."""
+    return re.sub(r"\s+", " ", refusal)[:300]
+
+
+def is_of(folder, tried, files):
+    """Whether the copy that was tried is the crate as it stands with the edit made, and nothing else."""
+    for part in PARTS:
+        ours = {str(path.relative_to(folder)): path for path in (folder / part).rglob("*") if path.is_file()}
+        theirs = {str(path.relative_to(tried)): path for path in (tried / part).rglob("*") if path.is_file()}
+        if set(ours) != set(theirs):
+            return False
+        for name, path in ours.items():
+            if theirs[name].read_text() != files.get(name, path.read_text()):
+                return False
+    return True
+
+
+def check_logs(top, target):
+    """What is wrong with the logs that the proofs left, and how many edits were refused by each class of fact."""
+    counts, wrong = collections.Counter(), []
+    found, _ = edits_of(top)
+    for path in found:
+        crate, where = path.parent.parent, path.relative_to(top)
+        tried = target / "must-fail" / crate.name / path.stem
+        if not (tried / ".log").is_file():
+            wrong.append(f"{where}: it was not tried, there is no log of it")
+            continue
+        try:
+            if not is_of(crate, tried, edited(crate, path.read_text())):
+                wrong.append(f"{where}: its log is that of another edit, or of the crate as it was")
+        except BadEdit as why:
+            wrong.append(f"{where}: {why}")
+        pairs = len(list(pairs_of(path.read_text())))
+        first, faults = check_log((tried / ".log").read_text(errors="replace"), pairs)
+        wrong += [f"{where}: {fault}" for fault in faults]
+        if not faults:
+            counts[first] += 1
+    return wrong, counts

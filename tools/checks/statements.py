@@ -1,0 +1,53 @@
+"""The files that hold the statements of theorems, each held to the words that it had when it was last read.
+
+Nothing but a theorem's own proof uses most parts of its statement. A part that is dropped or weakened there, with its part of the proof,
+would go unnoticed unless a false version of that very part is among the must-fail edits, and few parts have one. So a statement's words
+count: where they change, a reader judges them again, and then puts the new sum here.
+"""
+import hashlib
+
+from checks import antt
+
+# By their paths: the first digits of the sum of all words outside comments.
+SUMS = {
+    "crates/basics/specs/Lay.antt": "755429438186ecdb",
+    "crates/bench/specs/Alone.antt": "0f54041a5da8d136",
+    "crates/bench/specs/Refusals.antt": "235387d299e3a0ae",
+    "crates/control/specs/Write.antt": "4533074153fd6436",
+    "crates/demand/specs/Demand.antt": "1426ba7a71303cd2",
+    "crates/frames/specs/Calls.antt": "f9246236986c1748",
+    "crates/frames/specs/Frames.antt": "47505aa6cb286671",
+    "crates/frames/specs/Widths.antt": "f002353a9b03b442",
+    "crates/record/specs/Refusals.antt": "ea8b36ca9790d7b0",
+    "crates/replay/specs/Laws.antt": "a2fa3224285f9ffe",
+    "crates/replay/specs/Run.antt": "f3b1e23a934eee82",
+    "crates/settled/specs/Cases.antt": "fd06aaf733152d0f",
+    "crates/settled/specs/Premises.antt": "07ff5f01e46a24e9",
+    "crates/visits/specs/Picture.antt": "c38d3515d934dd97",
+    "crates/visits/specs/Refresh.antt": "1e4f3c3808ec21aa",
+}
+
+
+def sum_of(text):
+    """The sum of a file's words. Comments are whole lines that begin with `-- `, here or further in."""
+    said = "\n".join("" if line.lstrip().startswith("-- ") else line for line in text.split("\n"))
+    words = "\n".join(item.text for item in antt.items_of(antt.strict_text(said)))
+    return hashlib.sha256(words.encode()).hexdigest()[:16]
+
+
+def check(top, paths):
+    """Yields what is wrong with the files that hold statements, named from the top."""
+    for path in sorted(set(paths)):
+        if not (top / path).is_file():
+            continue  # said where the place is named
+        try:
+            there = sum_of((top / path).read_text())
+        except antt.Unreadable as why:
+            yield f"{path}: {why}"
+            continue
+        if path not in SUMS:
+            yield f"{path}: it holds a statement; read it, and put its sum, {there}, into tools/checks/statements.py"
+        elif there != SUMS[path]:
+            yield f"{path}: a statement in it has changed; read it anew, and put its sum, {there}, into tools/checks/statements.py"
+    for path in sorted(set(SUMS) - set(paths)):
+        yield f"{path}: tools/checks/statements.py has its sum, and no theorem's statement is in it"

@@ -1,0 +1,4 @@
+"""Changes to the second program, each of which breaks a rule: what the comparison has to see."""
+from . import controller, multiplexer, records
+
+CHANGES = records.CHANGES + controller.CHANGES + multiplexer.CHANGES

@@ -1,0 +1,161 @@
+"""Wrong headers for C, and proved declarations that C cannot have: tools/check-linked has to refuse each. Nothing is proved here."""
+import pathlib
+import sys
+import tempfile
+import unittest
+
+TOOLS = pathlib.Path(__file__).resolve().parent.parent
+if str(TOOLS) not in sys.path:
+    sys.path.insert(0, str(TOOLS))
+
+from commands import TOP
+from kit import INCLUDE
+from linked.header import HEADER, check_header
+from linked.layout import proved_declarations
+from linked.sources import Sources, Unfit
+
+COMPILER = ["gcc"]
+PEN = "struct pen { u16 latch; _Bool inside, struck, full; };"
+SCAN = "struct scan { u8 column, line, row; u16 base, start; u8 field; _Bool adjusting; };"
+CLOCK = "struct controller controller_clock(struct controller c, u16 n);"
+LOCATE = "struct found controller_locate(struct controller c);"
+RESET = "struct controller controller_reset(struct controller c);"
+
+# What is wrong with a header: the words of it that are replaced, those in their place, and words of the refusal.
+WRONG_HEADERS = {
+    "two fields of one type swapped": (PEN, PEN.replace("inside, struck", "struck, inside"), "struct pen: inside is not at byte 2"),
+    "two fields of one type swapped in a row": (SCAN, SCAN.replace("column, line", "line, column"), "struct scan: line is not at byte 1"),
+    "two whole structs swapped": ("struct sync sync;\n    struct facts left;", "struct facts left;\n    struct sync sync;",
+                                  "struct controller: sync is not at byte 28"),
+    "a wider field": (SCAN, SCAN.replace("u8 field", "u16 field"), "struct scan: the size of field is not 1"),
+    "a narrower field": (PEN, PEN.replace("u16 latch", "u8 latch"), "struct pen: the size of latch is not 2"),
+    "a field too many": (SCAN, SCAN.replace("u8 field;", "u8 field, more;"), "struct scan: adjusting is not at byte 9"),
+    "a number where a truth value is": (SCAN, SCAN.replace("_Bool adjusting", "u8 adjusting"), "adjusting is no proved_bool"),
+    "a signed field": (PEN, PEN.replace("u16 latch", "short latch"), "latch is no proved_u16"),
+    "a shorter array": ("held[16]", "held[15]", "struct registers: the size of held is not 16"),
+    "a field missing": (PEN, PEN.replace(", full", ""), "full"),
+    "a field missing before padding": (SCAN, SCAN.replace(", row", ""), "row"),
+    "a field that hides in padding": (SCAN, SCAN.replace("line, row", "line, row, extra"), "scan"),
+    "a field that hides in the end's padding": (PEN, PEN.replace(", full", ", full, extra"), "pen"),
+    "a field of another name": (PEN, PEN.replace("struck", "stuck"), "struck"),
+    "fields without padding": (SCAN, SCAN.replace("};", "} __attribute__((packed));"), "struct scan"),
+    "fields further apart": (PEN, PEN.replace("};", "} __attribute__((aligned(8)));"), "struct pen: its alignment is not 2"),
+    "a struct missing": ("struct counted { u16 b; u8 x, y; };", "struct counted;", "counted"),
+    "a struct that is not proved": (PEN, PEN + " struct beam { u8 width; };", "the struct beam"),
+    "a wider parameter": (CLOCK, CLOCK.replace("u16 n", "unsigned n"), "controller_clock"),
+    "a narrower parameter": (CLOCK, CLOCK.replace("u16 n", "u8 n"), "controller_clock"),
+    "a pointer for a struct": (RESET, RESET.replace("controller c)", "controller *c)"), "controller_reset"),
+    "a parameter missing": (CLOCK, CLOCK.replace(", u16 n", ""), "controller_clock"),
+    "a parameter too many": (RESET, RESET.replace("c)", "c, u16 n)"), "controller_reset"),
+    "parameters left open": (RESET, RESET.replace("struct controller c)", ")"), "prototype"),
+    "another result": (LOCATE, LOCATE.replace("struct found", "struct counted"), "controller_locate"),
+    "a call missing": (LOCATE, "", "controller_locate"),
+    "a call that is not exported": (LOCATE, LOCATE + " void controller_halt(void);", "the call controller_halt"),
+}
+
+PLAIN_CRATES = {
+    "exports/src/lib.rt": """use inner::Part;
+        #[repr(C)]
+        pub struct Whole { pub parts: [Part; 3], pub last: u64 }
+        #[no_mangle]
+        pub extern "C" fn turned(w: Whole, by: u32) -> Part
+            ensures { anything }
+        { w.parts[0] }
+        pub struct Unseen { pub a: u8 }
+        """,
+    "inner/src/lib.rt": "mod part;\npub use part::Part;\n",
+    "inner/src/part.rt": """// A part.
+        #[repr(C)]
+        pub struct Part {
+            // how many, of u64 at most
+            pub count: u16,
+            pub flag: bool,
+        }
+        pub enum Choice { One, Other(u8) }
+        """,
+}
+
+# What is wrong with the sources: the file, the words of it that are replaced, those in their place, and words of the refusal.
+WRONG_SOURCES = {
+    "a struct without its layout": ("inner/src/part.rt", "#[repr(C)]", "", "Part, in crates/inner/src/part.rt, lacks #[repr(C)]"),
+    "a struct of another layout": ("inner/src/part.rt", "#[repr(C)]", "#[repr(C, packed)]", "lacks #[repr(C)]"),
+    "an enum in a struct": ("inner/src/part.rt", "flag: bool", "flag: Choice", "Choice, in crates/inner/src/part.rt, is an enum"),
+    "an enum as a result": ("exports/src/lib.rt", "-> Part", "-> inner::Choice", "turned: Choice"),
+    "a type that C cannot have": ("inner/src/part.rt", "count: u16", "count: &[u16]", "'&[u16]'"),
+    "a struct that is nowhere": ("exports/src/lib.rt", "use inner::Part;", "", "Part"),
+    "an array as a parameter": ("exports/src/lib.rt", "by: u32", "by: [u8; 4]", "C passes no arrays"),
+    "no exported call": ("exports/src/lib.rt", "#[no_mangle]", "", "exports no call"),
+    "two structs of one name": ("exports/src/lib.rt", "pub struct Unseen { pub a: u8 }",
+                                '#[repr(C)] pub struct PART { pub a: u8 } #[no_mangle] pub extern "C" fn seen(p: PART) { }',
+                                "would both be 'struct part'"),
+}
+
+
+def replaced(text, old, new):
+    """A text with its one place of some words changed."""
+    if text.count(old) != 1:
+        raise ValueError(f"'{old}' stands {text.count(old)} times in the text, and not once")
+    return text.replace(old, new)
+
+
+class Headers(unittest.TestCase):
+    """The header as it is, and wrong ones."""
+
+    @classmethod
+    def setUpClass(cls):
+        cls.proved = proved_declarations(Sources(TOP / "crates"))
+        cls.header = (INCLUDE / HEADER).read_text()
+
+    def check(self, text):
+        """Holds a header to the proved declarations."""
+        with tempfile.TemporaryDirectory() as folder:
+            room = pathlib.Path(folder)
+            (room / HEADER).write_text(text)
+            check_header(COMPILER, room, *self.proved, room)
+
+    def test_the_header_fits(self):
+        self.check(self.header)
+
+    def test_wrong_headers_are_refused(self):
+        for what, (old, new, words) in WRONG_HEADERS.items():
+            with self.subTest(what), self.assertRaises(Unfit) as refused:
+                self.check(replaced(self.header, old, new))
+            with self.subTest(f"{what}: the words"):
+                self.assertIn(words, str(refused.exception))
+
+
+class Declarations(unittest.TestCase):
+    """What is read from the Rattle sources."""
+
+    def proved(self, file=None, old="", new=""):
+        """The declarations of the small crates, with words of one file changed."""
+        with tempfile.TemporaryDirectory() as folder:
+            crates = pathlib.Path(folder) / "crates"
+            for name, text in PLAIN_CRATES.items():
+                path = crates / name
+                path.parent.mkdir(parents=True, exist_ok=True)
+                path.write_text(replaced(text, old, new) if name == file else text)
+            return proved_declarations(Sources(crates))
+
+    def test_layout(self):
+        shapes, calls = self.proved()
+        self.assertEqual([(shape.name, shape.size, shape.align) for shape in shapes], [("part", 4, 2), ("whole", 24, 8)])
+        places = {shape.name: [(field.name, field.at, field.laid.size) for field in shape.fields] for shape in shapes}
+        self.assertEqual(places["part"], [("count", 0, 2), ("flag", 2, 1)])
+        self.assertEqual(places["whole"], [("parts", 0, 12), ("last", 16, 8)])
+        self.assertEqual([(call.name, len(call.parameters), call.result.base) for call in calls], [("turned", 2, "struct part")])
+
+    def test_lent_structs_are_pointers(self):
+        _shapes, calls = self.proved("exports/src/lib.rt", "turned(w: Whole", "turned(w: &mut Whole")
+        self.assertEqual(calls[0].parameters[0][1].base, "struct whole *")
+
+    def test_wrong_sources_are_refused(self):
+        for what, (file, old, new, words) in WRONG_SOURCES.items():
+            with self.subTest(what), self.assertRaises(Unfit) as refused:
+                self.proved(file, old, new)
+            with self.subTest(f"{what}: the words"):
+                self.assertIn(words, str(refused.exception))
+
+
+if __name__ == "__main__":
+    unittest.main()
