@@ -2,6 +2,9 @@
 
 An edit that takes away a name which a proof uses, or changes how many arguments something takes, is refused whatever it says, and shows
 nothing. So after the proofs each edit's log is read: its first refusal has to be of a class of facts, and none of a class of shapes.
+
+Where the prover breaks its lines, and which of its sentences it says first, goes with the length of the file's path. So a refusal is
+taken as one line, and its sentences in any order.
 """
 import collections
 import dataclasses
@@ -15,7 +18,7 @@ CHECKED = "logic=not-proved"
 
 # Refusals that only follow from another one in the same log.
 FOLLOWS = (
-    r"^error: `[^`]+`: `[^`]+` was not admitted \(it has holes or undetermined implicits, or was rejected\), so this cannot be checked$",
+    r"^error: `[^`]+`: `[^`]+` was not admitted \(it has holes or undetermined implicits, or was rejected\), so this cannot be checked",
     r"^fn: not proved; it calls .*, which (?:is|are) not proved$",
     r"^fn: no proof: expected `[^`]+` in \S+; it calls .*, which (?:is|are) not proved$",
     r"^fn: not proved$",
@@ -28,8 +31,8 @@ NEEDS = (
     ("a need that is not there", r"has no `Need-"),
     ("a need in the place of another", r"expected type `[^`]*\bNeed-[^`]*`,? but this has type `[^`]*\bNeed-"),
     ("needs handed over otherwise", r"^error: `[^`]+-spec`: "),
-    ("a statement of another form", r"^(?![\s\S]*computed as far as they go, the two types)error: `[^`]+`: as printed, the two types first"
-                                    r" differ where one has `[^`]*`\s*\(expected\), at the start,? and the other has `(?:mathlib\.Core\.Path\._≡_|Path)`"),
+    ("a statement of another form", r"^(?!.*computed as far as they go, the two types).*as printed, the two types first differ where one has"
+                                    r" `[^`]*` \(expected\), at the start,? and the other has `(?:mathlib\.Core\.Path\._≡_|Path)`"),
 )
 
 # Refusals that any edit of the same shape would meet, whatever it says: (class, pattern).
@@ -44,29 +47,39 @@ SHAPES = (
     ("a file that is missing", r"cannot (?:be )?read|no such file|there is no file|is missing"),
     ("a bound of the prover", r"met a bound|step limit|took more than|limit was met|could not tell"),
     ("nothing left to rewrite", r"no occurrence"),
-    ("a test turned round, or a fact of another form", r"the two types are `|a dimension \(.*\) is expected here"),
+    ("a fact of another form", r"a dimension \(.*\) is expected here"),
     ("no proof to look at", r"^fn: no proof(?!: expected `[^`]+` in \S+; `search` does not close )"),
 )
 
-# Refusals of a fact: (class, pattern, what it says). The loose ones are tried last, when no shape fits.
+# Refusals of a fact: (class, pattern, what it says).
 FACTS = (
     ("returns", r"^note: it is not proved that what the function ensures holds when it returns",
      "what a function promises does not follow"),
     ("safety", r"^note: it is not proved that ",
      "a sum, an index or a cast that may fail"),
-    ("search", r"^error: `[^`]+`: `search`: no proof of `",
+    ("search", r"^error: .*`search`: no proof of `",
      "a search over the tests that were made finds no proof"),
     ("open", r"^fn: no proof: expected `[^`]+` in \S+; `search` does not close ",
      "the function whose promise does not follow"),
-    ("omega", r"^error: `[^`]+`: `omega`: the (?:goal|part `[^`]+` of the goal) does not follow from what it read\."
+    ("omega", r"^error: .*`omega`: the (?:goal|part `[^`]+` of the goal) does not follow from what it read\."
               r" All of that holds, and the (?:goal|part) fails, at ",
      "numbers for which it fails are named"),
-    ("differ", r"^error: `[^`]+`: (?:computed as far as they go|as printed), the two types (?:first differ|differ only) where one has ",
-     "what is promised and what is given differ in a value"),
-    ("rewrite", r"^error: `[^`]+`: give a proof of that as the last argument, `(?:rw|simp) L t`",
+    ("rewrite", r"^error: .*`(?:rw|simp)` has no last argument, so what it leaves must be a path whose two ends are equal, and `",
      "the two sides of an equation are not equal"),
 )
-LOOSE = (("type", r"^error: `[^`]+`: expected type `", "what is promised and what is given are two statements"),)
+
+# What is promised and what is given are two types. These are tried last, when no shape fits.
+TYPES = (
+    ("differ", r"^error: .*, the two types (?:first differ where one has|differ only where one has|are) `",
+     "what is promised and what is given differ in a value"),
+    ("type", r"^error: .*expected type `",
+     "what is promised and what is given are two statements"),
+)
+COMPUTED = r"computed as far as they go, the two types are `([^`]*)` \(expected\) and `([^`]*)` \(found\)"
+NOT_COMPUTED = r"what the two types compute to is not shown, because [^()]*\([^()]*\)"
+
+# The words that make what a type states, whatever its values.
+FORM = ("→", "⊥", "¬", "≡", "Path", "≤", "<", "×", "↔", "T")
 
 
 class BadEdit(Exception):
@@ -188,15 +201,35 @@ def refusals_of(log):
 
 def class_of(refusal):
     """The kind and the class of one refusal: follows, shape, fact, or unknown."""
-    head = refusal.split("\n")[0]
-    if any(re.search(pattern, head) for pattern in FOLLOWS):
+    said = " ".join(refusal.split())
+    if any(re.search(pattern, said) for pattern in FOLLOWS):
         return "follows", ""
-    tables = (("shape", NEEDS, refusal), ("fact", FACTS, head), ("shape", SHAPES, outside_quotes(head)), ("fact", LOOSE, head))
-    for kind, table, text in tables:
-        for name, pattern, *_ in table:
-            if re.search(pattern, text):
-                return kind, name
-    return "unknown", ""
+    if name := first_in(NEEDS, said):
+        return "shape", name
+    if name := first_in(FACTS, said):
+        return "fact", name
+    if name := first_in(SHAPES, outside_quotes(re.sub(NOT_COMPUTED, "", said))):
+        return "shape", name
+    computed = re.search(COMPUTED, said)
+    if computed and form_of(computed.group(1)) != form_of(computed.group(2)):
+        return "shape", "a test turned round, or a fact of another form"
+    name = first_in(TYPES, said)
+    return ("fact" if name else "unknown"), name
+
+
+def first_in(table, text):
+    """The first class of a table whose pattern is in the text, or nothing."""
+    return next((name for name, pattern, *_ in table if re.search(pattern, text)), "")
+
+
+def form_of(type_):
+    """The words of a type, outside its brackets, that say what it states and not of which values."""
+    depth, form = 0, []
+    for word in re.findall(r"[(){}]|[^\s(){}]+", type_):
+        depth += (word in "({") - (word in ")}")
+        if depth == 0 and word in FORM:
+            form.append(word)
+    return form
 
 
 def outside_quotes(refusal):

@@ -1,4 +1,5 @@
 """What tools/check-edits refuses, on a small repository and on logs of each kind."""
+import itertools
 import shutil
 import unittest
 
@@ -210,12 +211,49 @@ class Classes(unittest.TestCase):
             "`add-k`: `omega`: the part `.fits` of the goal does not follow from what it read. All of that holds, and the part fails, at `x`": "omega",
             "`loop-again`: computed as far as they go, the two types differ only where one has `0` (expected) and the other has `1` (found)": "differ",
             "`returns`: as printed, the two types first differ where one has `0`": "differ",
-            "`returns`: give a proof of that as the last argument, `rw L t` (`rw L ?` shows it as a hole's goal), or add what is missing to the list": "rewrite",
+            "`returns`: `rw` has no last argument, so what it leaves must be a path whose two ends are equal, and `Path ℕ 1 2` is none": "rewrite",
             "`above`: expected type `8 < kind`, but this has type `9 < kind`": "type",
         }
         for words, name in said.items():
             with self.subTest(words):
                 self.assertEqual(edits.check_log(WHERE + words + "\n" + REFUSED), (name, []))
+
+    def test_sentences_in_any_order_and_lines_broken_anywhere(self):
+        several = {
+            ("differ", ""): (
+                "computed as far as they go, the two types are `suc n ≤ 127` (expected) and `suc n ≤ 128` (found)",
+                "expected type `n < 127`, but this has type `n < 128`",
+            ),
+            ("", "a test turned round"): (
+                "computed as far as they go, the two types are `T b` (expected) and `T b → ⊥` (found)",
+                "expected type `holds b`, but this has type `fails b`",
+            ),
+            ("", "a statement of another form"): (
+                "as printed, the two types first differ where one has `reads.Post` (expected), at the start, and the other has `Path` (found)",
+                "expected type `reads.Post x`, but this has type `Path ℕ 1 2`",
+            ),
+            ("", "another number of arguments"): (
+                "this λ has 3 binders, but its type has room for only 2",
+                "expected type `ℕ → ℕ → ℕ`",
+            ),
+            ("rewrite", ""): (
+                "`rw` has no last argument, so what it leaves must be a path whose two ends are equal, and `Path ℕ 1 2` is none",
+                "give a proof of that as the last argument, `rw L t` (`rw L ?` shows it as a hole's goal), or add what is missing to the list",
+            ),
+            ("type", ""): (
+                "expected type `Shows 1 64`, but this has type `lines 192 ≡ lines 192`",
+                "what the two types compute to is not shown, because neither could be computed (expected: computing it took more than 9 steps)",
+            ),
+        }
+        for (fact, shape), sentences in several.items():
+            for said in itertools.permutations(sentences):
+                for space in (" ", "\n  "):
+                    with self.subTest(said):
+                        words = " ".join(("`returns`:", *said)).replace(" ", space)
+                        first, wrong = edits.check_log(WHERE + words + "\n" + REFUSED)
+                        self.assertEqual(first, fact)
+                        self.assertIn(shape, " ".join(wrong))
+                        self.assertEqual(bool(shape), bool(wrong))
 
     def test_a_promise_that_does_not_follow(self):
         log = "fn alpha::two: proved\nnote: /x/src/lib.rt:2:1: it is not proved that what the function ensures holds when it returns (`returns`)\n"
