@@ -22,7 +22,7 @@ SUMS = {
     "crates/replay/specs/Laws.antt": "a2fa3224285f9ffe",
     "crates/replay/specs/Run.antt": "f3b1e23a934eee82",
     "crates/settled/specs/Cases.antt": "fd06aaf733152d0f",
-    "crates/settled/specs/Premises.antt": "07ff5f01e46a24e9",
+    "crates/settled/specs/Premises.antt": "86d5fa27e6513db9",
     "crates/visits/specs/Picture.antt": "c38d3515d934dd97",
     "crates/visits/specs/Refresh.antt": "1e4f3c3808ec21aa",
 }

@@ -4,7 +4,7 @@
 use mathlib.Core.List.{[], _∷_}
 use mathlib.Core.Path.{refl}
 use denote.Ref.{now}
-use Rattle.answers.proofs.Alike.{one-answer, and-then}
+use Rattle.basics.proofs.Alike.{one-answer, _then_}
 use Rattle.answers.specs.OneAnswer.{OneAnswer, OneOutcome, OnePart}
 use Rattle.basics.proofs.flag.Reads as basics·flag
 use Rattle.basics.proofs.high.Reads as basics·high
@@ -103,7 +103,7 @@ pub basics-number : OneAnswer basics·number.Post
 basics-number κs a x y s t p q = one-answer p q
 
 pub basics-put : OneOutcome basics·put.Post (λ κs s. now (s .0) ∷ now (s .1 .1 .0) ∷ [])
-basics-put κs a x y s t p q = (one-answer (p .0) (q .0), and-then (one-answer (p .1 .0) (q .1 .0)) (and-then (one-answer (p .1 .1) (q .1 .1)) refl))
+basics-put κs a x y s t p q = (one-answer (p .0) (q .0), one-answer (p .1 .0) (q .1 .0) then one-answer (p .1 .1) (q .1 .1) then refl)
 
 pub basics-counted : OneAnswer basics·counted.Post
 basics-counted κs a x y s t p q = one-answer p q
@@ -274,10 +274,10 @@ pub answer-plain : OneAnswer answer·plain.Post
 answer-plain κs a x y s t p q = one-answer p q
 
 pub text-put-hex : OneOutcome text·put-hex.Post (λ κs s. now (s .0) ∷ now (s .1 .1 .0) ∷ [])
-text-put-hex κs a x y s t p q = (one-answer (p .0) (q .0), and-then (one-answer (p .1 .0) (q .1 .0)) (and-then (one-answer (p .1 .1) (q .1 .1)) refl))
+text-put-hex κs a x y s t p q = (one-answer (p .0) (q .0), one-answer (p .1 .0) (q .1 .0) then one-answer (p .1 .1) (q .1 .1) then refl)
 
 pub text-said : OneOutcome text·said.Post (λ κs s. now (s .1 .0) ∷ [])
-text-said κs a x y s t p q = (one-answer (p .0) (q .0), and-then (one-answer (p .1 .1) (q .1 .1)) refl)
+text-said κs a x y s t p q = (one-answer (p .0) (q .0), one-answer (p .1 .1) (q .1 .1) then refl)
 
 pub bodies-bus-answer : OneAnswer bodies·bus-answer.Post
 bodies-bus-answer κs a x y s t p q = one-answer p q
@@ -313,16 +313,16 @@ pub bench-write : OneAnswer bench·write.Post
 bench-write κs a x y s t p q = one-answer p q
 
 pub replay-replay : OneOutcome replay·replay.Post (λ κs s. now (s .1 .0) ∷ now (s .0) ∷ [])
-replay-replay κs a x y s t p q = (one-answer (p .0) (q .0), and-then (one-answer (p .1 .0) (q .1 .0)) (and-then (one-answer (p .1 .1) (q .1 .1)) refl))
+replay-replay κs a x y s t p q = (one-answer (p .0) (q .0), one-answer (p .1 .0) (q .1 .0) then one-answer (p .1 .1) (q .1 .1) then refl)
 
 pub replay-unread-rest : OnePart replay·unread-rest.Post (λ κs r. now r) (λ κs r. r .ptr) (λ κs s. now (s .0) ∷ [])
-replay-unread-rest κs a x y s t p q = (one-answer (p .0) (q .0), one-answer (p .1 .0) (q .1 .0), and-then (one-answer (p .1 .1) (q .1 .1)) refl)
+replay-unread-rest κs a x y s t p q = (one-answer (p .0) (q .0), one-answer (p .1 .0) (q .1 .0), one-answer (p .1 .1) (q .1 .1) then refl)
 
 pub lister-list : OneOutcome lister·list.Post (λ κs s. now (s .1 .0) ∷ now (s .0) ∷ [])
-lister-list κs a x y s t p q = (one-answer (p .0) (q .0), and-then (one-answer (p .1 .0) (q .1 .0)) (and-then (one-answer (p .1 .1 .1) (q .1 .1 .1)) refl))
+lister-list κs a x y s t p q = (one-answer (p .0) (q .0), one-answer (p .1 .0) (q .1 .0) then one-answer (p .1 .1 .1) (q .1 .1 .1) then refl)
 
 pub lister-room : OneOutcome lister·room.Post (λ κs s. now (s .1 .0) ∷ now (s .0) ∷ [])
-lister-room κs a x y s t p q = (one-answer (p .0) (q .0), and-then (one-answer (p .1 .0) (q .1 .0)) (and-then (one-answer (p .1 .1 .1) (q .1 .1 .1)) refl))
+lister-room κs a x y s t p q = (one-answer (p .0) (q .0), one-answer (p .1 .0) (q .1 .0) then one-answer (p .1 .1 .1) (q .1 .1 .1) then refl)
 
 pub exports-controller-clock : OneAnswer exports·controller-clock.Post
 exports-controller-clock κs a x y s t p q = one-answer p q

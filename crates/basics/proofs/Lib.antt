@@ -1,3 +1,4 @@
+pub mod Alike
 pub mod Cases
 pub mod Iterating
 pub mod Laying

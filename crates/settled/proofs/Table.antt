@@ -1,11 +1,12 @@
 -- The table of settled cases, computed row by row. Assumes nothing.
 use Prim.Native.Nat.{ℕ}
-use mathlib.Core.Path.{_≡_, refl, ap₂}
+use mathlib.Core.Path.{_≡_, refl}
 use mathlib.Core.List.{List, [], _∷_, map}
 use lib.ListN.{getD}
 use Rattle.basics.specs.Choice.{if_then_else_}
 use Rattle.basics.specs.Count.{count}
 use Rattle.basics.specs.Iterate.{iterate}
+use Rattle.basics.proofs.Alike.{_then_}
 use Rattle.raster.specs.Scan.{lineEndOf, moveOf, movedOf, nextOf}
 use Rattle.raster.specs.Sync.{hsyncOf, vsyncStartsOf, vsyncWidthOf, vsyncOf, arriveOf}
 use Rattle.facts.specs.Facts.{pictureOf, addressOf, maOf, latchOf, blinkOf, cursorLineOf, cursorOf, factsOf}
@@ -19,10 +20,6 @@ use Rattle.locator.specs.Cells.{cellsFrom, cellAddressOf, cellLatchOf, fitsOf, 
 use Rattle.locator.specs.Locate.{namedOf, locateOf}
 use Rattle.settled.specs.Cases as cases
 use Rattle.settled.specs.Cases.{writesOf, reachedOf, lookedOf, seenOf, cases, settled, Settled}
-
-infixr 20 _then_
-_then_ : {x y : List ℕ} {xs ys : List (List ℕ)} → x ≡ y → xs ≡ ys → x ∷ xs ≡ y ∷ ys
-_then_ p q = ap₂ (λ (a : List ℕ) (l : List (List ℕ)). a ∷ l) p q
 
 -- one row of the table, its case against what was settled. Each is shown by itself: h, i and j go over 16,000 cells each.
 abbrev Row : ℕ → Type 0

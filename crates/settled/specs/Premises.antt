@@ -1,12 +1,11 @@
 -- Demand 3 promises nothing empty: each of its premises is met, by a settled case that register writes lead to from power-on.
-use Prim.Native.Nat.{ℕ, suc, _%_, _^_}
+use Prim.Native.Nat.{ℕ, suc}
 use mathlib.Core.Path.{_≡_}
 use mathlib.Core.Bool.{true, false}
 use mathlib.Core.List.{List, [], _∷_}
-use lib.ListN.{getD}
-use Rattle.raster.specs.Registers.{widths}
 use Rattle.facts.specs.Facts.{pictureOf, latchOf}
 use Rattle.controller.specs.Chip.{freshOf, resetOf, writeOf}
+use Rattle.controller.specs.Writes.{keptOf}
 use Rattle.controller.specs.declared.chip.Controller.{Controller}
 use Rattle.frames.specs.Calls.{Call, afterCalls, clocks, reads, Act, waits, strikes, afterActs}
 use Rattle.locator.specs.Cells.{IsCell, cellAt, cellLatchOf}
@@ -37,10 +36,10 @@ abbrev pub writesFrom : ℕ → List ℕ → List Call
 writesFrom k [] = []
 writesFrom k (v ∷ l) = put k v (writesFrom (suc k) l)
 
--- and what the registers keep of them: the low bits of each register's width
+-- and what each of those registers keeps of its number
 abbrev pub keptFrom : ℕ → List ℕ → List ℕ
 keptFrom k [] = []
-keptFrom k (v ∷ l) = v % 2 ^ getD widths k 0 ∷ keptFrom (suc k) l
+keptFrom k (v ∷ l) = keptOf k v ∷ keptFrom (suc k) l
 
 -- Every premise of demand 3, met.
 pub record Premises : Type 0 where
