@@ -33,6 +33,12 @@ module _ {A : Type 0} (f : A → A) where
   iterate-run at (suc n) h =
       ap f (iterate-run at n (λ k l. h k (omega arith))) ∙ h n (lt-suc-self n)
 
+  -- what every step keeps, any number of steps keep
+  pub iterate-keeps : (P : A → Type 0) → ((x : A) → P x → P (f x)) → (n : ℕ) (x : A) → P x → P (iterate f n x)
+  unfolding iterate
+  iterate-keeps P k zero x p = p
+  iterate-keeps P k (suc n) x p = k (iterate f n x) (iterate-keeps P k n x p)
+
   -- m turns of n steps each, where n steps from any place that P holds of are one g
   pub iterate-turns : (P : A → Type 0) (g : A → A) (n : ℕ) → ((x : A) → P x → iterate f n x ≡ g x) → ((x : A) → P x → P (g x))
       → (m : ℕ) (x : A) → P x → iterate f (m * n) x ≡ iterate g m x

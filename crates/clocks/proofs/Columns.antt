@@ -3,30 +3,22 @@ use Prim.Native.Nat.{ℕ, suc, _+_, _-_, _%_, _≤_, _<_}
 use mathlib.Core.Path.{_≡_, refl, sym, ap, _∙_}
 use mathlib.Core.Logic.{⊎-elim}
 use native.Mathlib.Omega.{arith}
-use borrow.Author.Tests.{eq-eqb, ne-eqb, lt-ltb, le-ltb, le-leb, lt-leb}
+use borrow.Author.Tests.{lt-ltb, le-ltb, le-leb, lt-leb}
 use Rattle.basics.specs.Choice.{if_then_else_}
 use Rattle.basics.specs.Iterate.{iterate}
 use Rattle.basics.proofs.Iterating.{iterate-run}
 use Rattle.basics.proofs.Tests.{lt-or-ge}
 use Rattle.raster.specs.Registers.{reg}
-use Rattle.raster.specs.Scan.{moveOf, movedOf, nextOf}
-use Rattle.raster.specs.Sync.{hsyncOf, vsyncOf, arriveOf}
+use Rattle.raster.specs.Scan.{nextOf}
+use Rattle.raster.specs.Sync.{hsyncOf, arriveOf}
+use Rattle.raster.proofs.LineEnds.{next-along}
+use Rattle.raster.proofs.Syncs.{hsync-loads, hsync-falls, vsync-stays, arrives, syncs}
 use Rattle.raster.specs.declared.registers.Registers.{Registers}
 use Rattle.raster.specs.declared.scan.Scan.{Scan}
 use Rattle.raster.specs.declared.sync.Sync.{Sync}
 use Rattle.clocks.specs.declared.place.Place.{Place}
 use Rattle.clocks.specs.Walk.{steppedOf}
 use Rattle.clocks.specs.Skip.{Clear, hsyncColumns, atColumn, columnsOn}
-
--- HSYNC on arrival at a column: loaded there, or fallen
-module _ (r : Registers) (s : Scan) (h : ℕ) where
-  pub loads : s .column ≡ reg r 2 → hsyncOf r s h ≡ reg r 3 % 16
-  unfolding hsyncOf if_then_else_
-  loads e = rw (eq-eqb (s .column) (reg r 2) e)
-
-  pub falls : (s .column ≡ reg r 2 → ⊥) → hsyncOf r s h ≡ h - 1
-  unfolding hsyncOf if_then_else_
-  falls n = rw (ne-eqb (s .column) (reg r 2) n)
 
 module _ (r : Registers) (c h : ℕ) where
   -- its closed form: R2 behind, R2 still ahead, R2 passed
@@ -65,16 +57,13 @@ module _ (r : Registers) (c h : ℕ) where
   arrives-on : (s : Scan) (k : ℕ) → s .column ≡ c + suc k → hsyncOf r s (hsyncColumns r c k h) ≡ hsyncColumns r c (suc k) h
   arrives-on s k e =
       ⊎-elim
-      (λ (p : c + suc k < reg r 2). falls r s _ (λ q. omega arith) ∙ falls-on k (λ q. omega arith))
+      (λ (p : c + suc k < reg r 2). hsync-falls r s _ (λ q. omega arith) ∙ falls-on k (λ q. omega arith))
       (λ (p : reg r 2 ≤ c + suc k).
       ⊎-elim
-      (λ (q : reg r 2 < c + suc k). falls r s _ (λ h. omega arith) ∙ falls-on k (λ h. omega arith))
-      (λ (q : c + suc k ≤ reg r 2). let f = passed (suc k) (omega arith) p in loads r s _ (omega arith) ∙ omega arith)
+      (λ (q : reg r 2 < c + suc k). hsync-falls r s _ (λ h. omega arith) ∙ falls-on k (λ h. omega arith))
+      (λ (q : c + suc k ≤ reg r 2). let f = passed (suc k) (omega arith) p in hsync-loads r s _ (omega arith) ∙ omega arith)
       (lt-or-ge (reg r 2) (c + suc k)))
       (lt-or-ge (c + suc k) (reg r 2))
-
-pub syncs-same : (h h′ v v′ : ℕ) → h ≡ h′ → v ≡ v′ → _≡_ {A = Sync} (record { hsync = h; vsync = v }) (record { hsync = h′; vsync = v′ })
-syncs-same h h′ v v′ e f = cc
 
 abbrev pub placed : Scan → Sync → Place
 placed s y = record { scan = s; sync = y }
@@ -90,16 +79,15 @@ module _ (r : Registers) (p : Place) where
   at k = p .scan .column + k
 
   next-column : (k : ℕ) → (at k ≡ reg r 0 → ⊥) → at k < 255 → nextOf r (atColumn (p .scan) (at k)) ≡ atColumn (p .scan) (at (suc k))
-  unfolding nextOf moveOf movedOf if_then_else_
   next-column k n l =
       let w : (at k + 1) % 256 ≡ at (suc k) = omega arith in
-      rw (ne-eqb (at k) (reg r 0) n) (ap (atColumn (p .scan)) w)
+      next-along r (atColumn (p .scan) (at k)) n ∙ ap (atColumn (p .scan)) w
 
   syncs-on : (k : ℕ) → arriveOf r (atColumn (p .scan) (at (suc k))) (columnsOn r p k .sync) ≡ columnsOn r p (suc k) .sync
-  unfolding arriveOf vsyncOf columnsOn if_then_else_
+  unfolding columnsOn
   syncs-on k =
-      syncs-same _ _ _ _ (arrives-on r (p .scan .column) (p .sync .hsync) (atColumn (p .scan) (at (suc k))) k refl)
-      (rw (ne-eqb (at (suc k)) 0 (λ q. omega arith)))
+      let s = atColumn (p .scan) (at (suc k)) in
+      arrives r s (columnsOn r p k .sync) (arrives-on r (p .scan .column) (p .sync .hsync) s k refl) (vsync-stays r s _ (λ q. omega arith))
 
   column-on : (k : ℕ) → (at k ≡ reg r 0 → ⊥) → at k < 255 → steppedOf r (columnsOn r p k) ≡ columnsOn r p (suc k)
   unfolding columnsOn
@@ -110,8 +98,8 @@ module _ (r : Registers) (p : Place) where
   no-column =
       let here : at 0 ≡ p .scan .column = omega arith in
       let still = none r (p .scan .column) (p .sync .hsync) in
-      ap (λ (x : ℕ). placed (atColumn (p .scan) x) (record { hsync = hsyncColumns r (p .scan .column) 0 (p .sync .hsync); vsync = p .sync .vsync })) here
-      ∙ ap (λ (x : ℕ). placed (p .scan) (record { hsync = x; vsync = p .sync .vsync })) still
+      ap (λ (x : ℕ). placed (atColumn (p .scan) x) (syncs (hsyncColumns r (p .scan .column) 0 (p .sync .hsync)) (p .sync .vsync))) here
+      ∙ ap (λ (x : ℕ). placed (p .scan) (syncs x (p .sync .vsync))) still
 
   -- k columns at once are k character times
   pub columns-at-once : (k : ℕ) → Clear 255 (reg r 0) (p .scan .column) k → iterate (steppedOf r) k p ≡ columnsOn r p k

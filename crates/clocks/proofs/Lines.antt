@@ -1,6 +1,6 @@
 -- Lines at once: m lines on within a row, none of them its last, are m times R0 + 1 character times. Assumes nothing.
 use Prim.Native.Nat.{ℕ, zero, suc, _+_, _*_, _-_, _%_, _≤_, _<_}
-use mathlib.Core.Path.{_≡_, refl, sym, ap, _∙_}
+use mathlib.Core.Path.{_≡_, refl, sym, ap, ap₂, _∙_}
 use mathlib.Core.Bool.{false}
 use mathlib.Core.Logic.{⊎-elim}
 use native.Mathlib.Omega.{arith}
@@ -11,14 +11,16 @@ use Rattle.basics.specs.Iterate.{iterate}
 use Rattle.basics.proofs.Iterating.{iterate-run, iterate-turns}
 use Rattle.basics.proofs.Tests.{lt-or-ge}
 use Rattle.raster.specs.Registers.{reg}
-use Rattle.raster.specs.Scan.{downOf, lineEndOf, moveOf, movedOf, nextOf}
-use Rattle.raster.specs.Sync.{hsyncOf, vsyncStartsOf, vsyncOf, arriveOf}
+use Rattle.raster.specs.Scan.{nextOf}
+use Rattle.raster.specs.Sync.{hsyncOf, arriveOf}
+use Rattle.raster.proofs.LineEnds.{next-down}
+use Rattle.raster.proofs.Syncs.{hsync-loads, hsync-falls, vsync-falls, arrives, syncs}
 use Rattle.raster.specs.declared.registers.Registers.{Registers}
 use Rattle.raster.specs.declared.scan.Scan.{Scan}
 use Rattle.clocks.specs.declared.place.Place.{Place}
 use Rattle.clocks.specs.Walk.{steppedOf}
 use Rattle.clocks.specs.Skip.{Clear, Whole, hsyncColumns, hsyncLines, atColumn, atLine, columnsOn, linesOn}
-use Rattle.clocks.proofs.Columns.{loads, falls, ahead, passed, syncs-same, placed, stepped, columns-at-once}
+use Rattle.clocks.proofs.Columns.{ahead, passed, placed, stepped, columns-at-once}
 
 -- HSYNC's closed form: no line, R2 past the line's end, R2 at its first column, R2 at another
 module _ (r : Registers) (h : ℕ) where
@@ -44,7 +46,7 @@ module _ (r : Registers) (h : ℕ) where
   arrives-on : (s : Scan) (m : ℕ) → s .column ≡ 0 → hsyncOf r s (hsyncColumns r (s .column) (reg r 0) (hsyncLines r m h)) ≡ hsyncLines r (suc m) h
   arrives-on s m e =
       ⊎-elim
-      (λ (z : reg r 2 ≡ 0). loads r s _ (omega arith) ∙ sym (at-first m z))
+      (λ (z : reg r 2 ≡ 0). hsync-loads r s _ (omega arith) ∙ sym (at-first m z))
       (λ (p : 0 < reg r 2).
       ⊎-elim
       (λ (l : reg r 0 < reg r 2).
@@ -52,18 +54,13 @@ module _ (r : Registers) (h : ℕ) where
       let b = unloaded m l in
       let d = unloaded (suc m) l in
       let k : suc m * (reg r 0 + 1) ≡ m * (reg r 0 + 1) + (reg r 0 + 1) = rw suc-mul (omega arith) in
-      falls r s _ (λ q. omega arith) ∙ omega arith)
+      hsync-falls r s _ (λ q. omega arith) ∙ omega arith)
       (λ (l : reg r 2 ≤ reg r 0).
       let a = passed r (s .column) (hsyncLines r m h) (reg r 0) (omega arith) (omega arith) in
       let b = at-other m p l in
-      falls r s _ (λ q. omega arith) ∙ omega arith)
+      hsync-falls r s _ (λ q. omega arith) ∙ omega arith)
       (lt-or-ge (reg r 0) (reg r 2)))
       (eq-zero-or-pos (reg r 2))
-
--- a line's end that is not its row's leads a line down
-moves-down : (r : Registers) (s : Scan) → s .column ≡ reg r 0 → s .adjusting ≡ false → (s .line ≡ reg r 9 → ⊥) → nextOf r s ≡ downOf s
-unfolding nextOf moveOf lineEndOf movedOf if_then_else_
-moves-down r s e a n = rw (eq-eqb (s .column) (reg r 0) e, a, ne-eqb (s .line) (reg r 9) n)
 
 module _ (r : Registers) (p : Place) (z : p .scan .column ≡ 0) (a : p .scan .adjusting ≡ false) where
   abbrev at : ℕ → ℕ
@@ -77,21 +74,15 @@ module _ (r : Registers) (p : Place) (z : p .scan .column ≡ 0) (a : p .scan .a
   unfolding columnsOn linesOn
   next-line m n l =
       let w : (at m + 1) % 32 ≡ at (suc m) = omega arith in
-      moves-down r (ending m .scan) (omega arith) a n
+      next-down r (ending m .scan) (omega arith) a n
       ∙ ap (atLine (atColumn (p .scan) 0)) w ∙ ap (λ (x : ℕ). atLine (atColumn (p .scan) x) (at (suc m))) (sym z)
 
-  no-start : (m : ℕ) → vsyncStartsOf r (linesOn r p (suc m) .scan) ≡ false
-  unfolding vsyncStartsOf linesOn
-  no-start m = rw (a, ne-eqb (at (suc m)) 0 (λ q. omega arith))
-
-  vsync-on : (m : ℕ) → vsyncOf r (linesOn r p (suc m) .scan) (p .sync .vsync - m) ≡ p .sync .vsync - suc m
-  unfolding vsyncOf linesOn if_then_else_
-  vsync-on m = rw (eq-eqb (p .scan .column) 0 z, no-start m) (omega arith)
-
   syncs-on : (m : ℕ) → arriveOf r (linesOn r p (suc m) .scan) (ending m .sync) ≡ linesOn r p (suc m) .sync
-  unfolding arriveOf columnsOn linesOn
+  unfolding columnsOn linesOn
   syncs-on m =
-      syncs-same _ _ _ _ (arrives-on r (p .sync .hsync) (linesOn r p (suc m) .scan) m z) (vsync-on m)
+      let s = linesOn r p (suc m) .scan in
+      let fallen : p .sync .vsync - m - 1 ≡ p .sync .vsync - suc m = omega arith in
+      arrives r s (ending m .sync) (arrives-on r (p .sync .hsync) s m z) (vsync-falls r s _ z a (λ q. omega arith) ∙ fallen)
 
   line-on : (m : ℕ) → (at m ≡ reg r 9 → ⊥) → at m < 31 → steppedOf r (ending m) ≡ linesOn r p (suc m)
   line-on m n l = stepped r (ending m) _ _ (next-line m n l) (syncs-on m)
@@ -110,8 +101,8 @@ unfolding linesOn
 no-line r p =
     let here : p .scan .line + 0 ≡ p .scan .line = omega arith in
     let still : p .sync .vsync - 0 ≡ p .sync .vsync = omega arith in
-    ap (λ (x : ℕ). placed (atLine (p .scan) x) (record { hsync = hsyncLines r 0 (p .sync .hsync); vsync = p .sync .vsync - 0 })) here
-    ∙ ap (placed (p .scan)) (syncs-same _ _ _ _ (none r (p .sync .hsync)) still)
+    ap (λ (x : ℕ). placed (atLine (p .scan) x) (syncs (hsyncLines r 0 (p .sync .hsync)) (p .sync .vsync - 0))) here
+    ∙ ap (placed (p .scan)) (ap₂ syncs (none r (p .sync .hsync)) still)
 
 -- m lines at once are m times R0 + 1 character times
 pub lines-at-once : (r : Registers) (p : Place) (m : ℕ) → reg r 0 ≤ 255 → Whole r p m → iterate (steppedOf r) (m * (reg r 0 + 1)) p ≡ linesOn r p m

@@ -1,4 +1,4 @@
--- Places reached by some of the character times that are left. Assumes nothing.
+-- Places reached by some of the character times that remain. Assumes nothing.
 use Prim.Native.Nat.{ℕ, suc, _+_, _-_, _≤_}
 use mathlib.Core.Path.{_≡_, sym, ap, _∙_}
 use native.Mathlib.Omega.{arith}
@@ -26,30 +26,30 @@ no-lines r p = record {
   lines = record { below = omega arith; clear = λ j l q. omega arith };
 }
 
-module _ (r : Registers) (left : ℕ) (p : Place) where
-  pub reached-none : Reached r left p (record { place = p; times = 0 })
+module _ (r : Registers) (remaining : ℕ) (p : Place) where
+  pub reached-none : Reached r remaining p (record { place = p; times = 0 })
   reached-none = record { within = omega arith; there = iterate-none (steppedOf r) p }
 
-  pub reached-columns : (q : Place) (room k : ℕ) → Clear 255 (reg r 0) (p .scan .column) room → k ≤ room → k ≤ left → q ≡ columnsOn r p k
-      → Reached r left p (record { place = q; times = k })
+  pub reached-columns : (q : Place) (room k : ℕ) → Clear 255 (reg r 0) (p .scan .column) room → k ≤ room → k ≤ remaining → q ≡ columnsOn r p k
+      → Reached r remaining p (record { place = q; times = k })
   reached-columns q room k z a b e = record { within = b; there = e ∙ sym (columns-at-once r p k (fewer k a z)) }
 
-  pub reached-lines : (q : Place) (m t : ℕ) → LineTimes (reg r 0) m t → Whole r p m → t ≤ left → q ≡ linesOn r p m
-      → Reached r left p (record { place = q; times = t })
+  pub reached-lines : (q : Place) (m t : ℕ) → LineTimes (reg r 0) m t → Whole r p m → t ≤ remaining → q ≡ linesOn r p m
+      → Reached r remaining p (record { place = q; times = t })
   reached-lines q m t u k l e = record { within = l; there = rw (u .are) (e ∙ sym (lines-at-once r p m (u .wide) k)) }
 
   -- one after the other
-  pub reached-both : (a b : Skip) → Reached r left p a → Reached r (left - a .times) (a .place) b
-      → Reached r left p (record { place = b .place; times = a .times + b .times })
+  pub reached-both : (a b : Skip) → Reached r remaining p a → Reached r (remaining - a .times) (a .place) b
+      → Reached r remaining p (record { place = b .place; times = a .times + b .times })
   reached-both a b f g =
       let n : a .times + b .times ≡ b .times + a .times = omega arith in
       record { within = omega arith; there = rw (n, iterate-add, ← f .there) (g .there) }
 
 -- a turn of the walk: what is passed at once, and a step
-pub walk-on : (r : Registers) (p : Place) (i left : ℕ) (w z : Walk) (s : Skip) → w ≡ walkOf r i p → Reached r left (w .place) s
+pub walk-on : (r : Registers) (p : Place) (i remaining : ℕ) (w z : Walk) (s : Skip) → w ≡ walkOf r i p → Reached r remaining (w .place) s
     → z ≡ onFrom r (s .place) → z ≡ walkOf r (i + (s .times + 1)) p
 unfolding walkOf
-walk-on r p i left w z s e f q =
+walk-on r p i remaining w z s e f q =
     let n : i + (s .times + 1) ≡ suc (s .times + i) = omega arith in
     let at : w .place ≡ iterate (steppedOf r) i p = ap (λ (x : Walk). x .place) e ∙ walk-place r p i in
     rw (n, iterate-add, ← at, ← f .there) q

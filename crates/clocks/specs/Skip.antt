@@ -30,9 +30,9 @@ pub record Whole (r : Registers) (p : Place) (m : ℕ) : Type 0 where
   pub plain : 0 < m → p .scan .adjusting ≡ false
   pub lines : Clear 31 (reg r 9) (p .scan .line) m
 
--- a place further on by some of the character times that are left to clock
-pub record Reached (r : Registers) (left : ℕ) (p : Place) (s : Skip) : Type 0 where
-  pub within : s .times ≤ left
+-- a place further on by some of the character times that remain to be clocked
+pub record Reached (r : Registers) (remaining : ℕ) (p : Place) (s : Skip) : Type 0 where
+  pub within : s .times ≤ remaining
   pub there : s .place ≡ iterate (steppedOf r) (s .times) p
 
 -- HSYNC, k columns on within a line. The count is loaded once at most, at column R2; it has fallen once at each column since then, or

@@ -46,10 +46,10 @@ impl Place {
     }
 
     // Columns at once, up to the last of the line.
-    fn skip_columns(self, r: Registers, left: u16) -> Skip
-        ensures { λ s. ⌜ Reached r left self s ⌝ }
+    fn skip_columns(self, r: Registers, remaining: u16) -> Skip
+        ensures { λ s. ⌜ Reached r remaining self s ⌝ }
     {
-        let k = lesser(clear(self.scan.column, r.held[0], 255), left);
+        let k = lesser(clear(self.scan.column, r.held[0], 255), remaining);
         let place = self.columns_on(r, k);
         Skip {
             place: place,
@@ -102,13 +102,13 @@ impl Place {
         0
     }
 
-    // Whole lines at once, up to the last of the row: all of them, or none where fewer times are left.
-    fn skip_lines(self, r: Registers, left: u16) -> Skip
-        ensures { λ s. ⌜ Reached r left self s ⌝ }
+    // Whole lines at once, up to the last of the row: all of them, or none where fewer times remain.
+    fn skip_lines(self, r: Registers, remaining: u16) -> Skip
+        ensures { λ s. ⌜ Reached r remaining self s ⌝ }
     {
         let m = self.whole_lines(r);
         let times = line_times(m, r.held[0]);
-        if left < times {
+        if remaining < times {
             return Skip {
                 place: self,
                 times: 0,
@@ -122,11 +122,11 @@ impl Place {
     }
 
     // Lines first, then columns.
-    fn skip_both(self, r: Registers, left: u16) -> Skip
-        ensures { λ s. ⌜ Reached r left self s ⌝ }
+    fn skip_both(self, r: Registers, remaining: u16) -> Skip
+        ensures { λ s. ⌜ Reached r remaining self s ⌝ }
     {
-        let lines = self.skip_lines(r, left);
-        let columns = lines.place.skip_columns(r, left - lines.times);
+        let lines = self.skip_lines(r, remaining);
+        let columns = lines.place.skip_columns(r, remaining - lines.times);
         let place = columns.place;
         Skip {
             place: place,
@@ -134,10 +134,10 @@ impl Place {
         }
     }
 
-    // As many of the times that are left as can be passed at once. At the last character of a row that is none, and to look for some
+    // As many of the times that remain as can be passed at once. At the last character of a row that is none, and to look for some
     // there would only slow down rows of a single character.
-    pub(crate) fn skip_ahead(self, r: Registers, left: u16) -> Skip
-        ensures { λ s. ⌜ Reached r left self s ⌝ }
+    pub(crate) fn skip_ahead(self, r: Registers, remaining: u16) -> Skip
+        ensures { λ s. ⌜ Reached r remaining self s ⌝ }
     {
         if (self.scan.column == r.held[0]) & (self.scan.line == r.held[9]) {
             return Skip {
@@ -145,6 +145,6 @@ impl Place {
                 times: 0,
             };
         }
-        self.skip_both(r, left)
+        self.skip_both(r, remaining)
     }
 }

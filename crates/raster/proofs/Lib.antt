@@ -1,1 +1,4 @@
+pub mod LineEnds
 pub mod Outcomes
+pub mod Syncs
+pub mod Widths

@@ -1,3 +1,4 @@
 pub mod Registers
 pub mod Scan
 pub mod Sync
+pub mod Widths

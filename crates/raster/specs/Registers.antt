@@ -1,5 +1,5 @@
 -- The sixteen registers as the scan reads them (document 01, "Controller registers" and "One character time").
-use Prim.Native.Nat.{ℕ}
+use Prim.Native.Nat.{ℕ, _+_, _*_, _%_}
 use mathlib.Core.Bool.{Bool}
 use mathlib.Core.List.{List, [], _∷_}
 use lib.ListN.{getD}
@@ -17,6 +17,10 @@ widths = 8 ∷ 8 ∷ 8 ∷ 8 ∷ 7 ∷ 5 ∷ 7 ∷ 7 ∷ 8 ∷ 5 ∷ 7 ∷ 5 ∷
 -- the start address: R12 its high part, R13 its low byte
 abbrev pub startOf : Registers → ℕ
 startOf r = wordOf (reg r 12) (reg r 13)
+
+-- the address that a row begins with: the start, and R1 for each row above it
+abbrev pub rowBaseOf : Registers → ℕ → ℕ
+rowBaseOf r row = (startOf r + row * reg r 1) % 16384
 
 -- R8 bit 2 addresses the picture by row and column
 abbrev pub byRowsOf : Registers → Bool

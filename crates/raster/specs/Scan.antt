@@ -79,13 +79,17 @@ rowOf r s adjusting = record {
   adjusting = adjusting;
 }
 
--- the place that a move leads to; a new frame also counts the field
+-- the first character of the frame after this one, whose field it counts
+abbrev pub newFrameOf : Registers → Scan → Scan
+newFrameOf r s = topOf r (countedOf Five (s .field) 1)
+
+-- the place that a move leads to
 unfoldable pub movedOf : Registers → Scan → Move → Scan
 movedOf r s along = alongOf s
 movedOf r s down = downOf s
 movedOf r s nextRow = rowOf r s false
 movedOf r s toAdjust = rowOf r s true
-movedOf r s newFrame = topOf r (countedOf Five (s .field) 1)
+movedOf r s newFrame = newFrameOf r s
 
 -- one character time
 unfoldable pub nextOf : Registers → Scan → Scan

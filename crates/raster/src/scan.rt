@@ -1,7 +1,7 @@
 // Where the scan is, and one character time.
 ghost use mathlib.Core.Path.{_≡_};
 ghost use Rattle.basics.specs.Width.{countedOf};
-ghost use Rattle.raster.specs.Scan.{newFrame, topOf, alongOf, downOf, rowOf, lineEndOf, movedOf, nextOf, endsFrameOf};
+ghost use Rattle.raster.specs.Scan.{topOf, newFrameOf, alongOf, downOf, rowOf, lineEndOf, movedOf, nextOf, endsFrameOf};
 use crate::registers::Registers;
 use basics::Width;
 use std::num::wrapping_add_u8;
@@ -64,7 +64,7 @@ impl Scan {
     }
 
     fn next_frame(self, r: Registers) -> Scan
-        ensures { λ s. ⌜ s ≡ movedOf r self newFrame ⌝ }
+        ensures { λ s. ⌜ s ≡ newFrameOf r self ⌝ }
     {
         Scan::top(r, five_on(self.field))
     }

@@ -1,4 +1,3 @@
-use Rattle.raster.specs.Scan.{movedOf}
 use borrow.Author.Needs.{needs}
 use Rattle.raster.proofs.scan.Scan.next_frame.Statement.{statement}
 use Rattle.raster.proofs.scan.Scan.next_frame.Tie as tie
@@ -10,7 +9,6 @@ top-requires : tie.Need-top-requires
 top-requires c κs = search needs
 
 returns : tie.Need-returns
-unfolding movedOf
 returns c = rw (c .before .five-on .ensures) at (c .top .ensures)
 
 pub next-frame-spec : {M : Type 1} → statement M
