@@ -1,2 +1,5 @@
 pub mod Clocking
 pub mod Reading
+pub mod Pens
+pub mod Keeping
+pub mod Widths

@@ -1,25 +1,22 @@
 -- The controller as a whole: power-on, reset, write, character times and pen strikes (document 01, "Controller registers" and
 -- "One character time").
 use Prim.Native.Nat.{ℕ}
-use mathlib.Core.Bool.{Bool, true, false}
+use mathlib.Core.Bool.{Bool, false}
 use lib.ListN.{replicate}
 use Rattle.basics.specs.Iterate.{iterate}
 use Rattle.raster.specs.Scan.{topOf, nextOf}
 use Rattle.raster.specs.Sync.{arriveOf}
-use Rattle.facts.specs.Facts.{pictureOf, latchOf, factsOf}
+use Rattle.facts.specs.Facts.{factsOf}
 use Rattle.raster.specs.declared.registers.Registers.{Registers}
 use Rattle.facts.specs.declared.facts.Facts.{Facts}
 use Rattle.raster.specs.declared.scan.Scan.{Scan}
 use Rattle.raster.specs.declared.sync.Sync.{Sync}
 use Rattle.clocks.specs.declared.place.Place.{Place}
 use Rattle.clocks.specs.declared.place.Walk.{Walk}
+use Rattle.controller.specs.Pen.{noPen, strikeAt, struckOf}
 use Rattle.controller.specs.Writes.{writtenOf}
 use Rattle.controller.specs.declared.pen.Pen.{Pen}
 use Rattle.controller.specs.declared.chip.Controller.{Controller}
-
--- no strike yet
-abbrev pub noPen : Pen
-noPen = record { latch = 0; inside = false; struck = false; full = false }
 
 -- nothing shown by a delayed pin yet: both facts false
 abbrev pub noFacts : Facts
@@ -75,13 +72,9 @@ clockOf n c = iterate stepOf n c
 abbrev pub withPen : Pen → Controller → Controller
 withPen pen c = record { regs = c .regs; scan = c .scan; sync = c .sync; left = c .left; pen = pen }
 
--- what a strike at a character makes of the pen: the latch, whether the character is in the picture (the fact, not the pin), and L set
-abbrev pub struckOf : Registers → Scan → Pen
-struckOf r s = record { latch = latchOf r s; inside = pictureOf r s; struck = true; full = true }
-
--- a strike: an earlier one is forgotten
+-- a strike at the character that the scan is at
 unfoldable pub strikeOf : Controller → Controller
-strikeOf c = withPen (struckOf (c .regs) (c .scan)) c
+strikeOf c = withPen (struckOf (c .pen) (strikeAt (c .regs) (c .scan))) c
 
 -- the part of the controller that walks: its scan and its syncs
 abbrev pub placeOf : Controller → Place

@@ -1,4 +1,6 @@
 pub mod Writes
+pub mod Pen
 pub mod Chip
 pub mod Pins
 pub mod Reads
+pub mod Widths

@@ -6,6 +6,7 @@ use Rattle.basics.specs.Choice.{if_then_else_}
 use Rattle.basics.specs.Bits.{num, highOf, lowOf}
 use Rattle.raster.specs.Registers.{reg}
 use Rattle.controller.specs.Chip.{withPen}
+use Rattle.controller.specs.Pen.{emptiedOf, newestOf, unreadOf}
 use Rattle.controller.specs.declared.chip.Controller.{Controller}
 use Rattle.controller.specs.declared.reads.Reading.{Reading}
 
@@ -15,25 +16,21 @@ blankOf c = c .scan .adjusting || leb (reg (c .regs) 6) (c .scan .row)
 
 -- status: L in bit 6, V in bit 5, all others 0
 unfoldable pub statusOf : Controller → ℕ
-statusOf c = num (c .pen .full) * 64 + num (blankOf c) * 32
+statusOf c = num (unreadOf (c .pen)) * 64 + num (blankOf c) * 32
 
--- what a read of register k brings: R14 and R15 as held, R16 and R17 the latch's high and low byte, all others 0
+-- what a read of register k brings: R14 and R15 as held, R16 and R17 the high and low byte of the newest strike's latch, all others 0
 unfoldable pub valueOf : Controller → ℕ → ℕ
 valueOf c k =
     if eqb k 14 then reg (c .regs) 14 else (if eqb k 15 then reg (c .regs) 15
-    else (if eqb k 16 then highOf (c .pen .latch) else (if eqb k 17 then lowOf (c .pen .latch) else 0)))
+    else (if eqb k 16 then highOf (newestOf (c .pen) .latch) else (if eqb k 17 then lowOf (newestOf (c .pen) .latch) else 0)))
 
 -- register 31 alone is not driven
 abbrev pub drivenOf : ℕ → Bool
 drivenOf k = not (eqb k 31)
 
--- L is cleared, the latch stays
-unfoldable pub emptiedOf : Controller → Controller
-emptiedOf c = withPen (record { latch = c .pen .latch; inside = c .pen .inside; struck = c .pen .struck; full = false }) c
-
 -- reading R16 or R17 clears L
 unfoldable pub afterReadOf : Controller → ℕ → Controller
-afterReadOf c k = if eqb k 16 || eqb k 17 then emptiedOf c else c
+afterReadOf c k = if eqb k 16 || eqb k 17 then withPen (emptiedOf (c .pen)) c else c
 
 -- RS 1 reads the named register. Decision: the answer is what stood there before the read cleared L.
 unfoldable pub registerReadOf : Controller → Reading

@@ -7,7 +7,7 @@ use Rattle.basics.specs.Choice.{if_then_else_}
 use Rattle.raster.specs.Registers.{widths}
 use Rattle.raster.specs.declared.registers.Registers.{Registers}
 
--- what register k keeps of a byte: the low bits of its width
+-- what register k keeps of a byte: the low bits of its width, which past R15 is none
 abbrev pub keptOf : ℕ → ℕ → ℕ
 keptOf k v = v % 2 ^ getD widths k 0
 

@@ -2,6 +2,7 @@
 ghost use mathlib.Core.Path.{_≡_};
 ghost use Rattle.controller.specs.Chip.{arrivedOf, freshOf, resetOf, writeOf, clockOf, strikeOf, placeOf, walkedOf};
 use crate::pen::Pen;
+use crate::pen::Strike;
 use crate::writes::written;
 use clocks::Place;
 use clocks::Walk;
@@ -65,12 +66,7 @@ impl Controller {
                 picture: false,
                 cursor: false,
             },
-            pen: Pen {
-                latch: 0,
-                inside: false,
-                struck: false,
-                full: false,
-            },
+            pen: Pen::none(),
         }
     }
 
@@ -130,14 +126,12 @@ impl Controller {
     {
         let r = self.regs;
         let o = self.outputs();
-        let pen = Pen {
+        let strike = Strike {
             latch: latch(r, self.scan),
             inside: o.picture,
-            struck: true,
-            full: true,
         };
         let mut c = self;
-        c.pen = pen;
+        c.pen = self.pen.struck(strike);
         c
     }
 }

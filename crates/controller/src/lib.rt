@@ -7,5 +7,7 @@ mod writes;
 
 pub use chip::Controller;
 pub use pen::Pen;
+pub use pen::Strike;
 pub use pins::Outputs;
 pub use reads::Reading;
+pub use writes::kept;

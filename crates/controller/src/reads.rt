@@ -1,6 +1,9 @@
 // Register reads.
 ghost use mathlib.Core.Path.{_≡_};
-ghost use Rattle.controller.specs.Reads.{blankOf, statusOf, valueOf, emptiedOf, afterReadOf, registerReadOf, statusReadOf, readOf};
+ghost use Rattle.basics.specs.Bits.{highOf, lowOf};
+ghost use Rattle.controller.specs.Chip.{withPen};
+ghost use Rattle.controller.specs.Pen.{emptiedOf, newestOf};
+ghost use Rattle.controller.specs.Reads.{blankOf, statusOf, valueOf, afterReadOf, registerReadOf, statusReadOf, readOf};
 use crate::chip::Controller;
 use basics::flag;
 use basics::high;
@@ -26,7 +29,21 @@ impl Controller {
     fn status(self) -> u8
         ensures { λ v. ⌜ v ≡ statusOf self ⌝ }
     {
-        flag(self.pen.full, 64) + flag(self.blank(), 32)
+        flag(self.pen.unread(), 64) + flag(self.blank(), 32)
+    }
+
+    // R16: the high byte of the newest strike's latch.
+    fn latch_high(self) -> u8
+        ensures { λ v. ⌜ v ≡ highOf (newestOf (self .pen) .latch) ⌝ }
+    {
+        high(self.pen.newest().latch)
+    }
+
+    // R17: its low byte.
+    fn latch_low(self) -> u8
+        ensures { λ v. ⌜ v ≡ lowOf (newestOf (self .pen) .latch) ⌝ }
+    {
+        low(self.pen.newest().latch)
     }
 
     fn value(self, k: u8) -> u8
@@ -40,19 +57,20 @@ impl Controller {
             return r.held[15];
         }
         if k == 16 {
-            return high(self.pen.latch);
+            return self.latch_high();
         }
         if k == 17 {
-            return low(self.pen.latch);
+            return self.latch_low();
         }
         0
     }
 
+    // L cleared.
     fn emptied(self) -> Controller
-        ensures { λ c. ⌜ c ≡ emptiedOf self ⌝ }
+        ensures { λ c. ⌜ c ≡ withPen (emptiedOf (self .pen)) self ⌝ }
     {
         let mut c = self;
-        c.pen.full = false;
+        c.pen = self.pen.emptied();
         c
     }
 

@@ -5,12 +5,23 @@ ghost use Rattle.controller.specs.Writes.{keptOf, addressedOf, storedOf,
 use crate::chip::Controller;
 use raster::Registers;
 
-// What register k keeps of a byte.
-fn kept(k: usize, v: u8) -> u8
+// A byte under the mask of a register that there is.
+fn masked(k: usize, v: u8) -> u8
     requires { ⌜ k < 16 ⌝ }
     ensures { λ r. ⌜ r ≡ keptOf k v ⌝ }
 {
     v & Controller::MASKS[k]
+}
+
+// What register k keeps of a byte; past R15 it is nothing.
+pub fn kept(k: u8, v: u8) -> u8
+    ensures { λ r. ⌜ r ≡ keptOf k v ⌝ }
+{
+    let at = k as usize;
+    if at < 16 {
+        return masked(at, v);
+    }
+    0
 }
 
 fn addressed(r: Registers, v: u8) -> Registers
@@ -27,7 +38,7 @@ fn stored(r: Registers, v: u8) -> Registers
     let at = r.named as usize;
     if at < 16 {
         let mut q = r;
-        q.held[at] = kept(at, v);
+        q.held[at] = masked(at, v);
         return q;
     }
     r

@@ -1,8 +1,8 @@
-use mathlib.Core.Path.{_≡_, ap}
-use mathlib.Core.Bool.{true}
-use Rattle.controller.specs.Chip.{withPen, struckOf, strikeOf}
-use Rattle.controller.specs.declared.pen.Pen.{Pen}
+use mathlib.Core.Path.{ap}
+use Rattle.controller.specs.Chip.{withPen, strikeOf}
+use Rattle.controller.specs.Pen.{strikeAt}
 use Rattle.controller.specs.Pins.{outputsOf}
+use Rattle.controller.specs.declared.pen.Pen.{Pen}
 use borrow.Author.Needs.{needs}
 use Rattle.controller.proofs.chip.Controller.strike.Statement.{statement}
 use Rattle.controller.proofs.chip.Controller.strike.Tie as tie
@@ -13,13 +13,15 @@ outputs-requires c κs = search needs
 latch-requires : tie.Need-latch-requires
 latch-requires c κs = search needs
 
+struck-requires : tie.Need-struck-requires
+struck-requires c κs = search needs
+
 returns : tie.Need-returns
-unfolding strikeOf outputsOf
+unfolding strikeOf strikeAt outputsOf
 returns c =
-    let self = c .before .before .before .args .self in
-    let pen : record { latch = c .latch .result; inside = c .before .outputs .result .picture; struck = true; full = true } ≡ struckOf (self .regs) (self .scan) =
-    rw (c .latch .ensures, c .before .outputs .ensures) in
-    ap (λ (p : Pen). withPen p self) pen
+    let latch = c .before in
+    let start = latch .before .before .before in
+    ap (λ (p : Pen). withPen p (start .args .self)) (rw (latch .latch .ensures, latch .before .outputs .ensures) at (c .struck .ensures))
 
 pub strike-spec : {M : Type 1} → statement M
-strike-spec = tie.close (tie.spec outputs-requires latch-requires returns)
+strike-spec = tie.close (tie.spec outputs-requires latch-requires struck-requires returns)

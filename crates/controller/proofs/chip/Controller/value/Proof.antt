@@ -18,15 +18,15 @@ returns-2 : tie.Need-returns-2
 unfolding valueOf
 returns-2 c = search cases depth 9
 
-high-requires : tie.Need-high-requires
-high-requires c κs = search needs
+latch-high-requires : tie.Need-latch-high-requires
+latch-high-requires c κs = search needs
 
 returns-3 : tie.Need-returns-3
 unfolding valueOf
 returns-3 c = search cases depth 9
 
-low-requires : tie.Need-low-requires
-low-requires c κs = search needs
+latch-low-requires : tie.Need-latch-low-requires
+latch-low-requires c κs = search needs
 
 returns-4 : tie.Need-returns-4
 unfolding valueOf
@@ -44,8 +44,8 @@ value-spec =
     returns
     element-copy-out-result-2
     returns-2
-    high-requires
+    latch-high-requires
     returns-3
-    low-requires
+    latch-low-requires
     returns-4
     returns-5)

@@ -1,0 +1,36 @@
+-- The light pen (document 01, "Controller registers" and "One character time"). All that others ask of a pen is asked by these
+-- definitions: nothing outside this crate names its fields.
+use mathlib.Core.Bool.{Bool, true, false}
+use Rattle.raster.specs.declared.registers.Registers.{Registers}
+use Rattle.raster.specs.declared.scan.Scan.{Scan}
+use Rattle.facts.specs.Facts.{pictureOf, latchOf}
+use Rattle.controller.specs.declared.pen.Pen.{Pen}
+use Rattle.controller.specs.declared.pen.Strike.{Strike}
+
+-- no strike yet
+unfoldable pub noPen : Pen
+noPen = record { last = record { latch = 0; inside = false }; any = false; full = false }
+
+-- a strike at a character: the latch, and whether the character is in the picture (the fact, not the pin)
+unfoldable pub strikeAt : Registers → Scan → Strike
+strikeAt r s = record { latch = latchOf r s; inside = pictureOf r s }
+
+-- a strike more: an earlier one is forgotten, and L is set
+unfoldable pub struckOf : Pen → Strike → Pen
+struckOf p s = record { last = s; any = true; full = true }
+
+-- L cleared; the latch stays
+unfoldable pub emptiedOf : Pen → Pen
+emptiedOf p = record { last = p .last; any = p .any; full = false }
+
+-- whether there was a strike since the reset
+unfoldable pub holdsOf : Pen → Bool
+holdsOf p = p .any
+
+-- the newest strike; where there was none its latch is 0, and R16 and R17 read so
+unfoldable pub newestOf : Pen → Strike
+newestOf p = p .last
+
+-- L: the newest strike's latch has not been read
+unfoldable pub unreadOf : Pen → Bool
+unreadOf p = p .full
