@@ -1,7 +1,7 @@
 -- The frame theorem: clocks, reads and strikes move the scan by their character times alone, and the field counts the frames that have
 -- begun. Assumes nothing.
 use Prim.Native.Nat.{ℕ, zero, suc, _+_, _*_, _/_, _%_, _<_, _≤_}
-use mathlib.Core.Path.{_≡_, refl, ap, sym, _∙_}
+use mathlib.Core.Path.{_≡_, refl, ap, ap₂, sym, _∙_}
 use mathlib.Core.Bool.{Bool}
 use mathlib.Core.List.{List, [], _∷_}
 use mathlib.Core.Logic.{⊎-elim}
@@ -14,25 +14,20 @@ use Rattle.basics.specs.Choice.{if_then_else_}
 use Rattle.basics.specs.Iterate.{iterate}
 use Rattle.basics.proofs.Iterating.{iterate-add}
 use Rattle.basics.proofs.Tests.{lt-or-ge}
-use Rattle.raster.specs.Scan.{Move, along, down, nextRow, toAdjust, newFrame, topOf, moveOf, movedOf, nextOf}
+use Rattle.raster.specs.Scan.{Move, topOf, moveOf, nextOf}
+use Rattle.raster.specs.Widths.{RegistersWithin}
 use Rattle.raster.specs.declared.registers.Registers.{Registers}
 use Rattle.raster.specs.declared.scan.Scan.{Scan}
-use Rattle.controller.specs.Chip.{arrivedOf, resetOf, stepOf, clockOf, strikeOf}
-use Rattle.controller.specs.Reads.{emptiedOf}
-use Rattle.controller.proofs.Reading.{after-read}
+use Rattle.raster.proofs.LineEnds.{line-down, row-down, to-adjust, to-frame, adjust-down, adjust-frame, Step, in-line, at-end, step}
+use Rattle.controller.specs.Chip.{resetOf}
 use Rattle.controller.specs.declared.chip.Controller.{Controller}
+use Rattle.controller.proofs.Keeping.{clock-regs, clock-scan, strike-regs, strike-scan, read-regs, read-scan, reset-regs, reset-scan}
 use Rattle.frames.specs.Calls.{clocks, reads, Act, waits, strikes, afterWait, afterAct, afterActs, timesIn, timesOf}
-use Rattle.frames.specs.Widths.{RegistersFit}
-use Rattle.frames.specs.Frames.{frameTimes, beginsFrame, beginsAt, Frames}
-use Rattle.frames.proofs.Times.{Narrow, narrow, placed-top, placed-after, some-times, begins-when, begins-at}
-
--- n character times move the scan n times and leave the registers
-clock-scan : (n : ℕ) (c : Controller) → (clockOf n c .regs ≡ c .regs) × (clockOf n c .scan ≡ iterate (nextOf (c .regs)) n (c .scan))
-unfolding clockOf iterate stepOf
-clock-scan zero c = (refl, refl)
-clock-scan (suc n) c =
-    let q = clock-scan n c in
-    (q .0, ap (λ (r : Registers). nextOf r (clockOf n c .scan)) (q .0) ∙ ap (nextOf (c .regs)) (q .1))
+use Rattle.frames.specs.Places.{frameTimes}
+use Rattle.frames.specs.Frames.{beginsFrame, beginsAt, Frames}
+use Rattle.frames.proofs.Placing.{Narrow, narrow, placed-top, placed-after}
+use Rattle.frames.proofs.Times.{some-times, begins-when, begins-at}
+use Rattle.frames.proofs.Places.{scan-at}
 
 -- where the scan is n character times on from a controller with registers r, and those registers
 abbrev Gone : Registers → Scan → ℕ → Controller → Type 0
@@ -40,10 +35,10 @@ Gone r s n c = (c .regs ≡ r) × (c .scan ≡ iterate (nextOf r) n s)
 
 -- an act moves the scan by its character times alone
 act-scan : (a : Act) (c : Controller) → Gone (c .regs) (c .scan) (timesIn a) (afterAct a c)
-unfolding afterAct afterWait timesIn iterate strikeOf emptiedOf
-act-scan (waits (clocks n)) c = clock-scan n c
-act-scan (waits (reads rs)) c = after-read (Gone (c .regs) (c .scan) 0) c (refl, refl) (refl, refl) rs
-act-scan strikes c = (refl, refl)
+unfolding afterAct afterWait timesIn iterate
+act-scan (waits (clocks n)) c = (clock-regs c n, clock-scan c n)
+act-scan (waits (reads rs)) c = (read-regs c rs, read-scan c rs)
+act-scan strikes c = (strike-regs c, strike-scan c)
 
 -- and so do any of them, one after the other
 acts-scan : (l : List Act) (c : Controller) → Gone (c .regs) (c .scan) (timesOf l) (afterActs l c)
@@ -69,14 +64,16 @@ next-whole t f z h =
     let e : suc t ≡ suc (t / f) * f + 0 = omega (arith, div-add-mod' t f, mod-lt t z, suc-mul (t / f) f) in
     (ap (λ (n : ℕ). n / f) e ∙ digits-div (suc (t / f)) z, ap (λ (n : ℕ). n % f) e ∙ digits-mod (suc (t / f)) z)
 
--- the field after a move
-moved-field : (r : Registers) (s : Scan) (m : Move) → movedOf r s m .field ≡ (if beginsFrame m then (s .field + 1) % 32 else s .field)
-unfolding movedOf if_then_else_
-moved-field r s along = refl
-moved-field r s down = refl
-moved-field r s nextRow = refl
-moved-field r s toAdjust = refl
-moved-field r s newFrame = refl
+-- the field after a character time
+step-field : {r : Registers} {s z : Scan} {m : Move} → Step r s m z → z .field ≡ (if beginsFrame m then (s .field + 1) % 32 else s .field)
+unfolding if_then_else_
+step-field (in-line h) = refl
+step-field (at-end h (line-down a l)) = refl
+step-field (at-end h (row-down a l w)) = refl
+step-field (at-end h (to-adjust a l w z)) = refl
+step-field (at-end h (to-frame a l w z)) = refl
+step-field (at-end h (adjust-down a l)) = refl
+step-field (at-end h (adjust-frame a l)) = refl
 
 module _ (r : Registers) (w : Narrow r) where
   abbrev F : ℕ
@@ -85,10 +82,10 @@ module _ (r : Registers) (w : Narrow r) where
   -- the field one character time on: it counts where a frame begins
   field-on : (t : ℕ) → iterate (nextOf r) (suc t) (topOf r 0) .field
       ≡ (if eqb (suc t % F) 0 then (iterate (nextOf r) t (topOf r 0) .field + 1) % 32 else iterate (nextOf r) t (topOf r 0) .field)
-  unfolding iterate nextOf beginsAt
+  unfolding iterate beginsAt
   field-on t =
       let s = iterate (nextOf r) t (topOf r 0) in
-      moved-field r s (moveOf r s) ∙ ap (λ (b : Bool). if b then (s .field + 1) % 32 else s .field) (begins-when r w 0 t)
+      step-field (step r s) ∙ ap (λ (b : Bool). if b then (s .field + 1) % 32 else s .field) (begins-when r w 0 t)
 
   field-after : (t : ℕ) → iterate (nextOf r) t (topOf r 0) .field ≡ (t / F) % 32
   unfolding iterate if_then_else_
@@ -103,14 +100,19 @@ module _ (r : Registers) (w : Narrow r) where
       field-on t ∙ rw (q .0, eq-eqb (suc t % F) 0 (q .1), field-after t) (omega arith))
       (lt-or-ge (suc (t % F)) F)
 
-pub frames : (c : Controller) → RegistersFit (c .regs) → Frames c
-unfolding resetOf arrivedOf
+pub frames : (c : Controller) → RegistersWithin (c .regs) → Frames c
 frames c f =
-    let w = narrow (c .regs) f in
+    let r = c .regs in
+    let w = narrow r f in
+    let top = topOf r 0 in
+    let gone : (l : List Act) → Gone r top (timesOf l) (afterActs l (resetOf c)) =
+    λ l. let g = acts-scan l (resetOf c) in
+    (g .0 ∙ reset-regs c, g .1 ∙ ap₂ (λ (q : Registers) (s : Scan). iterate (nextOf q) (timesOf l) s) (reset-regs c) (reset-scan c)) in
     record {
-      registers = λ l. acts-scan l (resetOf c) .0;
-      times = λ l. acts-scan l (resetOf c) .1;
-      begins = begins-at (c .regs) w 0;
-      fields = field-after (c .regs) w;
-      placed = λ l. rw (acts-scan l (resetOf c) .1) (placed-after (c .regs) w (topOf (c .regs) 0) (placed-top (c .regs) w 0) (timesOf l));
+      registers = λ l. gone l .0;
+      times = λ l. gone l .1 ∙ ap (iterate (nextOf r) (timesOf l)) (sym (reset-scan c));
+      begins = rw (reset-scan c) (begins-at r w 0);
+      fields = rw (reset-scan c) (field-after r w);
+      places = rw (reset-scan c) (scan-at r w (field-after r w));
+      placed = λ l. rw (gone l .1) (placed-after r w top (placed-top r w 0) (timesOf l));
     }

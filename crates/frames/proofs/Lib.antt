@@ -1,4 +1,5 @@
-pub mod Moves
-pub mod Widths
+pub mod Reached
+pub mod Placing
 pub mod Times
+pub mod Places
 pub mod Frames

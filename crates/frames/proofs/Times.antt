@@ -1,7 +1,7 @@
 -- When a frame begins. A place's number in its frame is a closed form, one character time adds one to it or starts it again at 0, so t
 -- times after the top of a frame it is t mod F. Assumes nothing.
 use Prim.Native.Nat.{ℕ, zero, suc, _+_, _*_, _%_, _/_, _<_}
-use mathlib.Core.Path.{_≡_, refl, ap, sym, _∙_}
+use mathlib.Core.Path.{_≡_, ap, sym, _∙_}
 use mathlib.Core.Bool.{Bool, true, false, false≢true}
 use mathlib.Core.Logic.{_↔_}
 use native.Mathlib.Nat.{mod-eq-of-lt, mod-self, zero-mod, suc-mod, zero-mul, div-add-mod', mul-mod-left, suc-mul, mul-comm}
@@ -11,76 +11,24 @@ use lib.Arith.{digits-lt}
 use borrow.Author.Tests.{eqb-true, eq-eqb, ne-eqb}
 use Rattle.basics.specs.Iterate.{iterate}
 use Rattle.raster.specs.Registers.{reg}
-use Rattle.raster.specs.Scan.{Move, topOf, moveOf, movedOf, nextOf}
+use Rattle.raster.specs.Scan.{Move, topOf, moveOf, nextOf}
 use Rattle.raster.specs.declared.registers.Registers.{Registers}
 use Rattle.raster.specs.declared.scan.Scan.{Scan}
-use Rattle.frames.specs.Widths.{RegistersFit}
-use Rattle.frames.specs.Frames.{frameTimes, beginsFrame, beginsAt, Region, Placed}
-use Rattle.frames.proofs.Moves.{Why, in-line, line-down, row-down, to-adjust, to-frame, adjust-down, adjust-frame, why}
-
--- the widths that the frame's arithmetic leans on, where omega reads them
-pub record Narrow (r : Registers) : Type 0 where
-  pub r0 : reg r 0 < 256
-  pub r4 : reg r 4 < 128
-  pub r5 : reg r 5 < 32
-  pub r9 : reg r 9 < 32
-  pub r12 : reg r 12 < 64
-  pub r13 : reg r 13 < 256
-
-pub narrow : (r : Registers) → RegistersFit r → Narrow r
-narrow r f = record {
-  r0 = f .each 0 (omega arith);
-  r4 = f .each 4 (omega arith);
-  r5 = f .each 5 (omega arith);
-  r9 = f .each 9 (omega arith);
-  r12 = f .each 12 (omega arith);
-  r13 = f .each 13 (omega arith);
-}
-
--- one more, under a product: what omega needs of products
-times-suc : {a b : ℕ} (n : ℕ) → b ≡ suc a → b * n ≡ a * n + n
-times-suc {a} n e = ap (λ (x : ℕ). x * n) e ∙ suc-mul a n
-
-module _ (r : Registers) (w : Narrow r) where
-  pub placed-top : (f : ℕ) → Placed r (topOf r f)
-  placed-top f = record { column = omega arith; start = refl; region = (omega arith, omega arith, omega arith) }
-
-  module _ (s : Scan) (p : Placed r s) where
-    -- the facts of a place, where it is known whether the adjust lines run
-    facts : (b : Bool) → s .adjusting ≡ b → Region r (s .line) (s .row) (s .base) b
-    facts b a = rw a at (p .region)
-
-    placed-move : {m : Move} → Why r s m → Placed r (movedOf r s m)
-    unfolding movedOf
-    placed-move (in-line h) = record { column = omega arith; start = p .start; region = p .region }
-    placed-move (line-down h a l) =
-        let q = facts false a in
-        record { column = omega arith; start = p .start; region = rw a (omega arith, q .1, q .2) }
-    placed-move (row-down h a l k) =
-        let q = facts false a in
-        record { column = omega arith; start = p .start; region = (omega arith, omega arith, omega (arith, times-suc {a = s .row} {b = (s .row + 1) % 128} (reg r 1) (omega arith))) }
-    placed-move (to-adjust h a l k z) = record { column = omega arith; start = p .start; region = omega arith }
-    placed-move (to-frame h a l k z) = placed-top _
-    placed-move (adjust-down h a l) =
-        let q = facts true a in
-        record { column = omega arith; start = p .start; region = rw a (omega arith) }
-    placed-move (adjust-frame h a l) = placed-top _
-
-  pub placed-after : (s : Scan) → Placed r s → (n : ℕ) → Placed r (iterate (nextOf r) n s)
-  unfolding iterate nextOf
-  placed-after s p zero = p
-  placed-after s p (suc n) = placed-move (iterate (nextOf r) n s) (placed-after s p n) (why r (iterate (nextOf r) n s))
+use Rattle.raster.proofs.LineEnds.{line-down, row-down, to-adjust, to-frame, adjust-down, adjust-frame, Step, in-line, at-end, step}
+use Rattle.frames.specs.Places.{rowLines, frameTimes, Region, Placed}
+use Rattle.frames.specs.Frames.{beginsFrame, beginsAt}
+use Rattle.frames.proofs.Placing.{Narrow, times-suc, placed-top, facts, placed-step, placed-after}
 
 -- the number of a place's line in its frame, and of its character time
-unfoldable lineNo : Registers → (line row : ℕ) → Bool → ℕ
+unfoldable pub lineNo : Registers → (line row : ℕ) → Bool → ℕ
 lineNo r line row false = row * (reg r 9 + 1) + line
-lineNo r line row true = (reg r 4 + 1) * (reg r 9 + 1) + line
+lineNo r line row true = rowLines r + line
 
-unfoldable timeNo : Registers → Scan → ℕ
+unfoldable pub timeNo : Registers → Scan → ℕ
 timeNo r s = lineNo r (s .line) (s .row) (s .adjusting) * (reg r 0 + 1) + s .column
 
 unfoldable lines : Registers → ℕ
-lines r = (reg r 4 + 1) * (reg r 9 + 1) + reg r 5
+lines r = rowLines r + reg r 5
 
 line-in : (r : Registers) (line row base : ℕ) (b : Bool) → Region r line row base b → lineNo r line row b < lines r
 unfolding lineNo lines
@@ -105,9 +53,9 @@ carry : {a b n c : ℕ} → b ≡ suc a → c ≡ n → b * (n + 1) + 0 ≡ suc 
 carry {a} {b} {n} {c} e h = omega (arith, times-suc {a = a} {b = b} (n + 1) e)
 
 -- what a move does to the number of the character time
-Counts : Registers → Scan → Move → Bool → Type 0
-Counts r s m false = timeNo r (movedOf r s m) ≡ suc (timeNo r s)
-Counts r s m true = (suc (timeNo r s) ≡ frameTimes r) × (timeNo r (movedOf r s m) ≡ 0)
+Counts : Registers → Scan → Scan → Bool → Type 0
+Counts r s z false = timeNo r z ≡ suc (timeNo r s)
+Counts r s z true = (suc (timeNo r s) ≡ frameTimes r) × (timeNo r z ≡ 0)
 
 module _ (r : Registers) (w : Narrow r) (s : Scan) (p : Placed r s) where
   top-time : (f : ℕ) → timeNo r (topOf r f) ≡ 0
@@ -119,37 +67,36 @@ module _ (r : Registers) (w : Narrow r) (s : Scan) (p : Placed r s) where
   unfolding timeNo
   last-time e h = omega (arith, times-lines r, carry {b = lines r} (sym e) h)
 
-  counts : {m : Move} → Why r s m → Counts r s m (beginsFrame m)
-  unfolding Counts timeNo lineNo lines movedOf
+  counts : {m : Move} {z : Scan} → Step r s m z → Counts r s z (beginsFrame m)
+  unfolding Counts timeNo lineNo lines
   counts (in-line h) = omega arith
-  counts (line-down h a l) = let q = facts r w s p false a in rw a (carry (omega arith) h)
-  counts (row-down h a l k) =
+  counts (at-end h (line-down a l)) = let q = facts r w s p false a in rw a (carry (omega arith) h)
+  counts (at-end h (row-down a l k)) =
       let q = facts r w s p false a in
       rw a (carry (omega (arith, times-suc {a = s .row} {b = (s .row + 1) % 128} (reg r 9 + 1) (omega arith))) h)
-  counts (to-adjust h a l k z) = rw a (carry (omega (arith, times-suc {a = s .row} {b = reg r 4 + 1} (reg r 9 + 1) (omega arith))) h)
-  counts (to-frame h a l k z) =
+  counts (at-end h (to-adjust a l k z)) = rw a (carry (omega (arith, times-suc {a = s .row} {b = reg r 4 + 1} (reg r 9 + 1) (omega arith))) h)
+  counts (at-end h (to-frame a l k z)) =
       (last-time (rw a (omega (arith, times-suc {a = s .row} {b = reg r 4 + 1} (reg r 9 + 1) (omega arith)))) h, top-time ((s .field + 1) % 32))
-  counts (adjust-down h a l) = let q = facts r w s p true a in rw a (carry (omega arith) h)
-  counts (adjust-frame h a l) = let q = facts r w s p true a in (last-time (rw a (omega arith)) h, top-time ((s .field + 1) % 32))
+  counts (at-end h (adjust-down a l)) = let q = facts r w s p true a in rw a (carry (omega arith) h)
+  counts (at-end h (adjust-frame a l)) = let q = facts r w s p true a in (last-time (rw a (omega arith)) h, top-time ((s .field + 1) % 32))
 
   -- the number of the next character time, and whether a frame begins there
-  arrives : (m : Move) (b : Bool) → Counts r s m b → Placed r (movedOf r s m)
-      → (timeNo r (movedOf r s m) ≡ suc (timeNo r s) % frameTimes r) × (b ≡ eqb (suc (timeNo r s) % frameTimes r) 0)
+  arrives : (z : Scan) (b : Bool) → Counts r s z b → Placed r z
+      → (timeNo r z ≡ suc (timeNo r s) % frameTimes r) × (b ≡ eqb (suc (timeNo r s) % frameTimes r) 0)
   unfolding Counts
-  arrives m false c n =
-      let t : suc (timeNo r s) % frameTimes r ≡ suc (timeNo r s) = mod-eq-of-lt (omega (arith, time-in r (movedOf r s m) n)) in
+  arrives z false c n =
+      let t : suc (timeNo r s) % frameTimes r ≡ suc (timeNo r s) = mod-eq-of-lt (omega (arith, time-in r z n)) in
       (c ∙ sym t, sym (ne-eqb (suc (timeNo r s) % frameTimes r) 0 (omega arith)))
-  arrives m true c n =
+  arrives z true c n =
       let t : suc (timeNo r s) % frameTimes r ≡ 0 = ap (λ (x : ℕ). x % frameTimes r) (c .0) ∙ mod-self _ in
       (c .1 ∙ sym t, sym (eq-eqb _ _ t))
 
   step-time : (timeNo r (nextOf r s) ≡ suc (timeNo r s) % frameTimes r) × (beginsFrame (moveOf r s) ≡ eqb (suc (timeNo r s) % frameTimes r) 0)
-  unfolding nextOf
-  step-time = let y = why r s in arrives (moveOf r s) (beginsFrame (moveOf r s)) (counts y) (placed-move r w s p y)
+  step-time = let y = step r s in arrives (nextOf r s) (beginsFrame (moveOf r s)) (counts y) (placed-step r w s p y)
 
 module _ (r : Registers) (w : Narrow r) (f : ℕ) where
   -- t character times after the top of a frame the scan stands at time t mod F of its frame
-  time-after : (t : ℕ) → timeNo r (iterate (nextOf r) t (topOf r f)) ≡ t % frameTimes r
+  pub time-after : (t : ℕ) → timeNo r (iterate (nextOf r) t (topOf r f)) ≡ t % frameTimes r
   unfolding iterate
   time-after zero = top-time r w (topOf r f) (placed-top r w f) f ∙ sym (zero-mod (frameTimes r))
   time-after (suc t) =

@@ -1,3 +1,3 @@
 pub mod Calls
-pub mod Widths
+pub mod Places
 pub mod Frames
