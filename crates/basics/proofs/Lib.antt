@@ -1,5 +1,6 @@
 pub mod Alike
 pub mod Cases
+pub mod Counting
 pub mod Iterating
 pub mod Laying
 pub mod Table

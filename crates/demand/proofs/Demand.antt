@@ -1,65 +1,42 @@
 -- Demand 3, proved. Assumes nothing.
-use Prim.Native.Nat.{ℕ, zero, suc, _<_}
+use Prim.Native.Nat.{_<_}
 use mathlib.Core.Path.{_≡_, refl, ap, ap₂, _∙_}
-use mathlib.Core.Bool.{Bool, true, false, not, _&&_, and-eq-true-iff}
+use mathlib.Core.Bool.{true, false}
 use mathlib.Core.List.{List, [], _∷_, _++_, map}
 use mathlib.Core.Logic.{_⊎_, inl, inr, ⊎-elim}
 use native.Mathlib.Omega.{arith}
-use lib.Dec.{eqb, ltb}
-use borrow.Author.Tests.{eqb-true, eqb-false, eq-eqb, ltb-true, not-true}
-use Rattle.basics.specs.Choice.{if_then_else_}
-use Rattle.basics.specs.Iterate.{iterate}
 use Rattle.raster.specs.Registers.{reg}
+use Rattle.raster.specs.Widths.{RegistersWithin}
 use Rattle.raster.specs.declared.registers.Registers.{Registers}
 use Rattle.raster.specs.declared.scan.Scan.{Scan}
-use Rattle.facts.specs.Facts.{pictureOf, maOf, latchOf}
-use Rattle.controller.specs.Chip.{arrivedOf, freshOf, resetOf, stepOf, clockOf, strikeOf}
-use Rattle.controller.specs.Reads.{emptiedOf}
+use Rattle.facts.specs.Facts.{pictureOf, latchOf}
+use Rattle.facts.proofs.Addresses.{in-picture}
+use Rattle.controller.specs.Chip.{freshOf, resetOf, clockOf, withPen, strikeOf}
+use Rattle.controller.specs.Pen.{strikeAt, emptiedOf, holdsOf, newestOf}
+use Rattle.controller.specs.declared.chip.Controller.{Controller}
+use Rattle.controller.proofs.Keeping.{clock-regs, clock-pen, strike-regs, strike-pen, reset-pen}
+use Rattle.controller.proofs.Pens.{none-holds, struck-holds, struck-newest, emptied-holds, emptied-newest}
 use Rattle.controller.proofs.Reading.{after-read}
 use Rattle.frames.specs.Calls.{afterCalls, Wait, clocks, reads, afterWait, Act, waits, strikes, afterAct, afterActs}
-use Rattle.frames.specs.Widths.{RegistersFit}
-use Rattle.frames.specs.Frames.{Region, Placed}
-use Rattle.controller.specs.declared.chip.Controller.{Controller}
+use Rattle.frames.specs.Places.{Region}
 use Rattle.frames.proofs.Frames.{frames}
-use Rattle.frames.proofs.Widths.{reached-fits}
-use Rattle.locator.specs.Cells.{IsCell, cellAt, cellAddressOf, cellLatchOf, fitsOf, fitOf}
-use Rattle.locator.specs.Locate.{refusalOf, cellOf, namedOf, locateOf}
-use Rattle.demand.specs.Demand.{struckAt, answerTo, Demand3, Demand3Reached}
+use Rattle.frames.proofs.Reached.{reached-within}
+use Rattle.locator.specs.Cells.{IsCell, cellAt, fitsOf, fitOf}
+use Rattle.locator.specs.Locate.{refusalOf, cellOf, namedOf, strikeFoundOf, locateOf}
 use Rattle.locator.specs.declared.cells.Cell.{Cell}
-use Rattle.locator.specs.declared.answer.Located.the-variants.{At, Outside, Several}
-use Rattle.demand.proofs.Listed.{found, several}
-
--- a strike in the picture latches what a strike in the cell of its row and column would
-picture-cell : (r : Registers) (s : Scan) → Placed r s → pictureOf r s ≡ true
-    → IsCell r (cellAt (s .row) (s .column)) × (cellLatchOf r (cellAt (s .row) (s .column)) ≡ latchOf r s)
-unfolding pictureOf maOf latchOf cellAddressOf cellLatchOf
-picture-cell r s p e =
-    let a = and-eq-true-iff (not (s .adjusting) && ltb (s .row) (reg r 6)) (ltb (s .column) (reg r 1)) .0 e in
-    let b = and-eq-true-iff (not (s .adjusting)) (ltb (s .row) (reg r 6)) .0 (a .0) in
-    let q : Region r (s .line) (s .row) (s .base) false = rw (not-true (s .adjusting) (b .0)) at (p .region) in (
-      record { row< = ltb-true (s .row) (reg r 6) (b .1); row≤ = q .1; column< = ltb-true (s .column) (reg r 1) (a .1); column≤ = p .column },
-      rw (p .start, q .2),
-    )
-
--- two cells are the same, or they are not
-same-or-other : (c d : Cell) → (c ≡ d) ⊎ (c ≡ d → ⊥)
-same-or-other c d = go (eqb (c .row) (d .row)) refl (eqb (c .column) (d .column)) refl
-  where
-    go : (a : Bool) → eqb (c .row) (d .row) ≡ a → (b : Bool) → eqb (c .column) (d .column) ≡ b → (c ≡ d) ⊎ (c ≡ d → ⊥)
-    go true p true q = inl (ap₂ cellAt (eqb-true _ _ p) (eqb-true _ _ q))
-    go true p false q = inr (λ e. eqb-false _ _ q (ap (λ (x : Cell). x .column) e))
-    go false p b q = inr (λ e. eqb-false _ _ p (ap (λ (x : Cell). x .row) e))
+use Rattle.locator.specs.declared.answer.Located.the-variants.{At, Unstruck, Outside, Several}
+use Rattle.locator.proofs.Listed.{found, several}
+use Rattle.locator.proofs.Locating.{locate-alike, locate-none, locate-newest, found-inside, found-outside, picture-cell, own-fits, same-or-other}
+use Rattle.demand.specs.Demand.{struckAt, answerTo, Rival, Demand3, Demand3Reached}
 
 -- clocks and reads leave what the locator goes by: the registers, and of the pen all but L
-clock-answer : (n : ℕ) (c : Controller) → locateOf (clockOf n c) ≡ locateOf c
-unfolding clockOf iterate stepOf locateOf
-clock-answer zero c = refl
-clock-answer (suc n) c = clock-answer n c
-
 wait-answer : (w : Wait) (c : Controller) → locateOf (afterWait w c) ≡ locateOf c
-unfolding afterWait emptiedOf locateOf
-wait-answer (clocks n) c = clock-answer n c
-wait-answer (reads rs) c = after-read (λ (d : Controller). locateOf d ≡ locateOf c) c refl refl rs
+unfolding afterWait
+wait-answer (clocks n) c =
+    locate-alike (clockOf n c) c (clock-regs c n) (ap holdsOf (clock-pen c n)) (ap newestOf (clock-pen c n))
+wait-answer (reads rs) c =
+    after-read (λ (d : Controller). locateOf d ≡ locateOf c) c refl
+    (locate-alike (withPen (emptiedOf (c .pen)) c) c refl (emptied-holds (c .pen)) (emptied-newest (c .pen))) rs
 
 after-waits : (more : List Wait) (c : Controller) → locateOf (afterActs (map waits more) c) ≡ locateOf c
 unfolding afterActs afterAct
@@ -82,59 +59,74 @@ split-last (strikes ∷ l) =
     ⊎-elim (λ q. inr ([], q .0, ap (λ (k : List Act). strikes ∷ k) (q .1))) (λ q. inr (strikes ∷ q .0, q .1, ap (λ (k : List Act). strikes ∷ k) (q .2)))
     (split-last l)
 
-module _ (c : Controller) (w : RegistersFit (c .regs)) where
+-- the answer that a strike itself brings
+strike-answer : (c : Controller) → locateOf (strikeOf c) ≡ strikeFoundOf (c .regs) (strikeAt (c .regs) (c .scan))
+strike-answer c =
+    locate-newest (strikeOf c) (ap holdsOf (strike-pen c) ∙ struck-holds (c .pen) _)
+    ∙ ap₂ strikeFoundOf (strike-regs c) (ap newestOf (strike-pen c) ∙ struck-newest (c .pen) _)
+
+module _ (c : Controller) (w : RegistersWithin (c .regs)) where
   abbrev r : Registers
   r = c .regs
 
   narrow : reg r 0 < 256
   narrow = w .each 0 (omega arith)
 
-  -- the answer for a last strike, by its place
-  struck : (before : List Act) (more : List Wait)
-      → answerTo c before more
-      ≡ (if pictureOf r (struckAt c before) then namedOf (fitOf r (latchOf r (struckAt c before))) else Outside)
-  unfolding if_then_else_ afterActs afterAct strikeOf locateOf
-  struck before more =
-      let b = afterActs before (resetOf c) in
-      let f = frames c w in
-      ap locateOf (acts-append before (strikes ∷ map waits more) (resetOf c))
-      ∙ after-waits more (strikeOf b)
-      ∙ ap (λ (q : Registers). if pictureOf q (b .scan) then namedOf (fitOf q (latchOf q (b .scan))) else Outside) (f .registers before)
+  module _ (before : List Act) (more : List Wait) where
+    abbrev s : Scan
+    s = struckAt c before
 
-  in-picture : (before : List Act) (more : List Wait) → pictureOf r (struckAt c before) ≡ true
-      → answerTo c before more ≡ namedOf (fitOf r (latchOf r (struckAt c before)))
-  unfolding if_then_else_
-  in-picture before more e = struck before more ∙ rw e
+    abbrev cell : Cell
+    cell = cellAt (s .row) (s .column)
+
+    -- the answer for a last strike, by its place
+    struck : answerTo c before more ≡ strikeFoundOf r (strikeAt r s)
+    unfolding afterActs afterAct
+    struck =
+        let b = afterActs before (resetOf c) in
+        ap locateOf (acts-append before (strikes ∷ map waits more) (resetOf c))
+        ∙ after-waits more (strikeOf b)
+        ∙ strike-answer b
+        ∙ ap (λ (q : Registers). strikeFoundOf q (strikeAt q (b .scan))) (frames c w .registers before)
+
+    struck-outside : pictureOf r s ≡ false → answerTo c before more ≡ Outside
+    unfolding strikeAt
+    struck-outside e = struck ∙ found-outside r (strikeAt r s) e
+
+    module _ (e : pictureOf r s ≡ true) where
+      struck-inside : answerTo c before more ≡ namedOf (fitOf r (latchOf r s))
+      unfolding strikeAt
+      struck-inside = struck ∙ found-inside r (strikeAt r s) e
+
+      region : Region r (s .line) (s .row) (s .base) false
+      region = rw (in-picture r s e .running) at (frames c w .placed before .region)
+
+      is-cell : IsCell r cell
+      is-cell = picture-cell r s e (region .1) (frames c w .placed before .column)
+
+      fits : fitsOf r (latchOf r s) cell ≡ true
+      fits = own-fits r s (frames c w .placed before .start) (region .2)
+
+      named-alone : ((d : Cell) → Rival c s d → ⊥) → answerTo c before more ≡ At cell
+      named-alone u =
+          struck-inside ∙ found r narrow (latchOf r s) cell is-cell fits
+          (λ d j k. ⊎-elim (λ (q : d ≡ cell). q) (λ n. absurd (u d (record { cell = j; fits = k; other = n }))) (same-or-other d cell))
+
+      rivalled : (d : Cell) → Rival c s d → answerTo c before more ≡ Several
+      rivalled d v = struck-inside ∙ several r narrow (latchOf r s) cell is-cell fits d (v .cell) (v .fits) (v .other)
+
+  unstruck : (more : List Wait) → locateOf (afterActs (map waits more) (resetOf c)) ≡ Unstruck
+  unstruck more = after-waits more (resetOf c) ∙ locate-none (resetOf c) (ap holdsOf (reset-pen c) ∙ none-holds)
 
   pub demand3 : Demand3 c
-  unfolding if_then_else_ fitOf fitsOf namedOf locateOf resetOf arrivedOf
   demand3 = record {
     frames = frames c w;
     last-strike = split-last;
-    unstruck = λ more. ap refusalOf (after-waits more (resetOf c));
-    named = λ before more e u.
-        let s = struckAt c before in
-        let p = picture-cell r s (frames c w .placed before) e in
-        let q : answerTo c before more ≡ At (cellAt (s .row) (s .column)) =
-        in-picture before more e
-        ∙ ap namedOf
-        (found r narrow (fitsOf r (latchOf r s)) (cellAt (s .row) (s .column)) (p .0) (eq-eqb _ _ (p .1))
-        (λ d j k.
-        ⊎-elim (λ (q : d ≡ cellAt (s .row) (s .column)). q)
-        (λ n. absurd (u d (record { cell = j; latch = eqb-true (cellLatchOf r d) (latchOf r s) k; other = n })))
-        (same-or-other d (cellAt (s .row) (s .column))))) in
-        (ap refusalOf q, ap cellOf q);
-    shared = λ before more e d v.
-        let s = struckAt c before in
-        let p = picture-cell r s (frames c w .placed before) e in
-        let q : answerTo c before more ≡ Several =
-        in-picture before more e
-        ∙ ap namedOf
-        (several r narrow (fitsOf r (latchOf r s)) (cellAt (s .row) (s .column)) (p .0) (eq-eqb _ _ (p .1))
-        d (v .cell) (eq-eqb _ _ (v .latch)) (v .other)) in
-        ap refusalOf q;
-    outside = λ before more e. let q : answerTo c before more ≡ Outside = struck before more ∙ rw e in ap refusalOf q;
+    unstruck = λ more. ap refusalOf (unstruck more);
+    named = λ before more e u. let q = named-alone before more e u in (ap refusalOf q, ap cellOf q);
+    shared = λ before more e d v. ap refusalOf (rivalled before more e d v);
+    outside = λ before more e. ap refusalOf (struck-outside before more e);
   }
 
 pub demand3-reached : Demand3Reached
-demand3-reached l = demand3 (afterCalls l freshOf) (reached-fits l .regs)
+demand3-reached l = demand3 (afterCalls l freshOf) (reached-within l .regs)

@@ -10,7 +10,7 @@ use Rattle.controller.specs.Chip.{freshOf, resetOf}
 use Rattle.frames.specs.Calls.{Call, afterCalls, Wait, Act, waits, strikes, afterActs}
 use Rattle.frames.specs.Frames.{Frames}
 use Rattle.controller.specs.declared.chip.Controller.{Controller}
-use Rattle.locator.specs.Cells.{IsCell, cellAt, cellLatchOf}
+use Rattle.locator.specs.Cells.{IsCell, cellAt, fitsOf}
 use Rattle.locator.specs.Locate.{refusalOf, cellOf, locateOf}
 use Rattle.locator.specs.declared.cells.Cell.{Cell}
 use Rattle.locator.specs.declared.answer.Located.{Located}
@@ -26,7 +26,7 @@ answerTo c before more = locateOf (afterActs (before ++ strikes ∷ map waits mo
 -- another picture cell would leave the same latch as a strike at s
 pub record Rival (c : Controller) (s : Scan) (d : Cell) : Type 0 where
   pub cell : IsCell (c .regs) d
-  pub latch : cellLatchOf (c .regs) d ≡ latchOf (c .regs) s
+  pub fits : fitsOf (c .regs) (latchOf (c .regs) s) d ≡ true
   pub other : d ≡ cellAt (s .row) (s .column) → ⊥
 
 -- the demand, sentence by sentence. Refusals stand by their numbers, and a located strike by its cell.

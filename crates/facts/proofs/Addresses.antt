@@ -1,12 +1,14 @@
 -- MA and the latch keep to fourteen bits, and depend neither on the line nor on the field; what a true picture fact gives. Assumes nothing.
-use Prim.Native.Nat.{ℕ, _%_, _<_}
+use Prim.Native.Nat.{ℕ, _+_, _%_, _<_}
 use mathlib.Core.Path.{_≡_, refl}
 use mathlib.Core.Bool.{Bool, true, false, not, _&&_, and-eq-true-iff}
 use native.Mathlib.Omega.{arith}
 use lib.Dec.{ltb}
 use borrow.Author.Tests.{ltb-true, lt-ltb, not-true}
 use Rattle.basics.proofs.Cases.{if-both}
-use Rattle.raster.specs.Registers.{reg}
+use Rattle.basics.specs.Bits.{wordOf, highOf, lowOf}
+use Rattle.basics.specs.Choice.{if_then_else_}
+use Rattle.raster.specs.Registers.{reg, byRowsOf}
 use Rattle.raster.specs.declared.registers.Registers.{Registers}
 use Rattle.raster.specs.declared.scan.Scan.{Scan}
 use Rattle.facts.specs.Facts.{pictureOf, addressOf, maOf, latchOf}
@@ -18,6 +20,16 @@ ma-lt r s = if-both (λ (a : ℕ). a < 16384) _ _ _ (λ _. omega arith) (λ _. o
 pub latch-lt : (r : Registers) (s : Scan) → latchOf r s < 16384
 unfolding latchOf
 latch-lt r s = omega arith
+
+-- the latch by the place's base and column, or by the start's two bytes
+module _ (r : Registers) (s : Scan) where
+  pub latch-by-base : byRowsOf r ≡ false → latchOf r s ≡ ((s .base + s .column) % 16384 + 2) % 16384
+  unfolding latchOf maOf addressOf if_then_else_
+  latch-by-base b = rw b
+
+  pub latch-by-rows : byRowsOf r ≡ true → latchOf r s ≡ (wordOf ((highOf (s .start) + s .row) % 64) ((lowOf (s .start) + s .column) % 256) + 2) % 16384
+  unfolding latchOf maOf addressOf if_then_else_
+  latch-by-rows b = rw b
 
 -- places that differ in line and field only latch alike
 pub latch-alike : (r : Registers) (s z : Scan) → z .column ≡ s .column → z .row ≡ s .row → z .base ≡ s .base → z .start ≡ s .start → latchOf r z ≡ latchOf r s

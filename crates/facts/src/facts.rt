@@ -40,7 +40,7 @@ fn by_row_and_column(start: u16, row: u8, column: u8) -> u16
 }
 
 // The address at a row and a column, with the frame's start and the row's base.
-pub fn address(r: Registers, start: u16, base: u16, row: u8, column: u8) -> u16
+fn address(r: Registers, start: u16, base: u16, row: u8, column: u8) -> u16
     ensures { λ a. ⌜ a ≡ addressOf r start base row column ⌝ }
 {
     if r.by_rows() {
@@ -57,7 +57,7 @@ pub fn ma(r: Registers, s: Scan) -> u16
 }
 
 // What a strike latches where MA is this address.
-pub fn latched(address: u16) -> u16
+fn latched(address: u16) -> u16
     ensures { λ a. ⌜ a ≡ latchedOf address ⌝ }
 {
     Width::Fourteen.counted(address, 2)

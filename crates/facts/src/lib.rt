@@ -3,9 +3,7 @@
 mod facts;
 
 pub use facts::Facts;
-pub use facts::address;
 pub use facts::cursor;
 pub use facts::latch;
-pub use facts::latched;
 pub use facts::ma;
 pub use facts::picture;

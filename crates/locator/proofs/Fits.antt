@@ -1,20 +1,23 @@
--- The fit of a list of cells, taken apart as the code meets them: row by row, and in each row the one column that can fit.
+-- The fit of a list of cells, taken apart as the code meets them: row by row, part by part of a row, and in a part the one column that
+-- can fit.
 -- Assumes nothing.
 use Prim.Native.Nat.{ℕ, zero, suc, _+_, _%_, _≤_, _<_}
 use mathlib.Core.Path.{_≡_, refl, ap, sym, _∙_}
 use mathlib.Core.Bool.{Bool, true, false}
-use mathlib.Core.List.{List, [], _∷_, _++_, map, append-assoc, append-nil}
+use mathlib.Core.List.{List, [], _∷_, _++_, map, map-append, append-assoc, append-nil}
 use mathlib.Core.Logic.{⊎-elim}
 use native.Mathlib.Nat.{add-zero, add-suc, suc-add, zero-add, eq-or-lt-of-le}
 use native.Mathlib.Numerals.{add-one}
 use native.Mathlib.Omega.{arith}
+use borrow.Author.Tests.{eqb-true}
 use Rattle.basics.specs.Choice.{if_then_else_}
 use Rattle.basics.specs.Count.{count}
+use Rattle.basics.proofs.Counting.{count-append}
 use Rattle.basics.specs.Bits.{wordOf, highOf, lowOf}
-use Rattle.raster.specs.Registers.{startOf, byRowsOf}
+use Rattle.raster.specs.Registers.{startOf, rowBaseOf, byRowsOf}
 use Rattle.raster.specs.declared.registers.Registers.{Registers}
-use Rattle.facts.specs.Facts.{addressOf}
-use Rattle.locator.specs.Cells.{cellAt, rowCells, rowBaseOf, cellsFrom, cellAddressOf, cellLatchOf, keep, theFit, joinedOf, fromBaseOf, fromLowOf}
+use Rattle.facts.proofs.Addresses.{latch-by-base, latch-by-rows}
+use Rattle.locator.specs.Cells.{cellAt, rowCells, cellsFrom, cellPlaceOf, cellLatchOf, fitsOf, keep, theFit, joinedOf, partFitOf, rowFitOf, fromBaseOf, fromLowOf}
 use Rattle.locator.specs.declared.cells.Cell.{Cell}
 use Rattle.locator.specs.declared.fit.Fit.the-variants.{Free}
 
@@ -35,6 +38,17 @@ fit-append (c ∷ []) (d ∷ []) = refl
 fit-append (c ∷ []) (d ∷ e ∷ m) = refl
 fit-append (c ∷ d ∷ l) m = refl
 
+-- of the cells that a test keeps, in two lists one after the other
+fit-joined : (f : Cell → Bool) (l m : List Cell) → theFit (keep f (l ++ m)) ≡ joinedOf (theFit (keep f l)) (theFit (keep f m))
+fit-joined f l m = ap theFit (keep-append f l m) ∙ fit-append (keep f l) (keep f m)
+
+-- in two parts of a row
+pub parts-joined : (r : Registers) (latch row a m n : ℕ) → partFitOf r latch row a (m + n) ≡ joinedOf (partFitOf r latch row a m) (partFitOf r latch row (a + m) n)
+unfolding partFitOf
+parts-joined r latch row a m n =
+    ap (λ (l : List Cell). theFit (keep (fitsOf r latch) l)) (ap (map (cellAt row)) (count-append a m n) ∙ map-append (cellAt row) (count a m) (count (a + m) n))
+    ∙ fit-joined (fitsOf r latch) (map (cellAt row) (count a m)) (map (cellAt row) (count (a + m) n))
+
 cells-last : (r : Registers) (a n : ℕ) → cellsFrom r a (suc n) ≡ cellsFrom r a n ++ rowCells r (a + n)
 unfolding cellsFrom
 cells-last r a zero = append-nil (rowCells r a) ∙ ap (rowCells r) (sym (add-zero a))
@@ -43,14 +57,14 @@ cells-last r a (suc n) =
     ∙ sym (append-assoc (rowCells r a) (cellsFrom r (suc a) n) (rowCells r (suc a + n)))
     ∙ ap (λ (x : ℕ). rowCells r a ++ cellsFrom r (suc a) n ++ rowCells r x) (suc-add a n ∙ sym (add-suc a n))
 
--- having met the first n rows, and meeting one more
-pub rows-more : (f : Cell → Bool) (r : Registers) (n : ℕ)
-    → theFit (keep f (cellsFrom r 0 (n + 1))) ≡ joinedOf (theFit (keep f (cellsFrom r 0 n))) (theFit (keep f (rowCells r n)))
-rows-more f r n =
-    ap (λ (x : ℕ). theFit (keep f (cellsFrom r 0 x))) (add-one n)
-    ∙ ap (λ (l : List Cell). theFit (keep f l)) (cells-last r 0 n ∙ ap (λ (x : ℕ). cellsFrom r 0 n ++ rowCells r x) (zero-add n))
-    ∙ ap theFit (keep-append f (cellsFrom r 0 n) (rowCells r n))
-    ∙ fit-append (keep f (cellsFrom r 0 n)) (keep f (rowCells r n))
+-- in the first n rows, and in one more
+pub rows-more : (r : Registers) (latch n : ℕ)
+    → theFit (keep (fitsOf r latch) (cellsFrom r 0 (n + 1))) ≡ joinedOf (theFit (keep (fitsOf r latch) (cellsFrom r 0 n))) (rowFitOf r latch n)
+unfolding rowFitOf partFitOf
+rows-more r latch n =
+    ap (λ (x : ℕ). theFit (keep (fitsOf r latch) (cellsFrom r 0 x))) (add-one n)
+    ∙ ap (λ (l : List Cell). theFit (keep (fitsOf r latch) l)) (cells-last r 0 n ∙ ap (λ (x : ℕ). cellsFrom r 0 n ++ rowCells r x) (zero-add n))
+    ∙ fit-joined (fitsOf r latch) (cellsFrom r 0 n) (rowCells r n)
 
 keep-skip : (f : Cell → Bool) (c : Cell) (l : List Cell) → (f c ≡ true → ⊥) → keep f (c ∷ l) ≡ keep f l
 unfolding if_then_else_ keep
@@ -100,11 +114,15 @@ counted-on base x latch h e = omega arith
 low-byte : (high start x latch : ℕ) → x < 256 → (wordOf high ((lowOf start + x) % 256) + 2) % 16384 ≡ latch → x ≡ fromLowOf start latch
 low-byte high start x latch h e = omega arith
 
-module _ (r : Registers) (row x latch : ℕ) (h : x < 256) (e : cellLatchOf r (cellAt row x) ≡ latch) where
+module _ (r : Registers) (row x latch : ℕ) (h : x < 256) (fits : fitsOf r latch (cellAt row x) ≡ true) where
+  leaves : cellLatchOf r (cellAt row x) 0 ≡ latch
+  unfolding fitsOf
+  leaves = eqb-true (cellLatchOf r (cellAt row x) 0) latch fits
+
   pub by-base : byRowsOf r ≡ false → x ≡ fromBaseOf (rowBaseOf r row) latch
-  unfolding if_then_else_ addressOf cellAddressOf cellLatchOf
-  by-base b = counted-on (rowBaseOf r row) x latch h (simp b at e)
+  unfolding cellLatchOf
+  by-base b = counted-on (rowBaseOf r row) x latch h (sym (latch-by-base r (cellPlaceOf r (cellAt row x) 0) b) ∙ leaves)
 
   pub by-low : byRowsOf r ≡ true → x ≡ fromLowOf (startOf r) latch
-  unfolding if_then_else_ addressOf cellAddressOf cellLatchOf
-  by-low b = low-byte ((highOf (startOf r) + row) % 64) (startOf r) x latch h (simp b at e)
+  unfolding cellLatchOf
+  by-low b = low-byte ((highOf (startOf r) + row) % 64) (startOf r) x latch h (sym (latch-by-rows r (cellPlaceOf r (cellAt row x) 0) b) ∙ leaves)

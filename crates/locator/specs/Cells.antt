@@ -1,13 +1,14 @@
 -- The picture's cells, and which of them a latch fits (document 01, "The locator"). Cells are a list, row by row; nothing here searches.
-use Prim.Native.Nat.{ℕ, zero, suc, _+_, _*_, _-_, _%_, _<_, _≤_, min}
-use mathlib.Core.Bool.{Bool}
+use Prim.Native.Nat.{ℕ, zero, suc, _+_, _-_, _%_, _<_, _≤_, min}
+use mathlib.Core.Bool.{Bool, false}
 use mathlib.Core.List.{List, [], _∷_, _++_, map}
 use lib.Dec.{eqb}
 use Rattle.basics.specs.Choice.{if_then_else_}
 use Rattle.basics.specs.Count.{count}
-use Rattle.raster.specs.Registers.{reg, startOf}
+use Rattle.raster.specs.Registers.{reg, startOf, rowBaseOf}
 use Rattle.raster.specs.declared.registers.Registers.{Registers}
-use Rattle.facts.specs.Facts.{addressOf, latchedOf}
+use Rattle.raster.specs.declared.scan.Scan.{Scan}
+use Rattle.facts.specs.Facts.{latchOf}
 use Rattle.locator.specs.declared.cells.Cell.{Cell}
 use Rattle.locator.specs.declared.fit.Fit.{Fit}
 use Rattle.locator.specs.declared.fit.Fit.the-variants.{Free, One, Many}
@@ -44,21 +45,25 @@ cellsFrom r row (suc n) = rowCells r row ++ cellsFrom r (suc row) n
 abbrev pub cellsOf : Registers → List Cell
 cellsOf r = cellsFrom r 0 (rowsOf r)
 
--- the address that a row begins with: the start, and R1 for each row above it
-abbrev pub rowBaseOf : Registers → ℕ → ℕ
-rowBaseOf r row = (startOf r + row * reg r 1) % 16384
+-- the place of the scan in the cell, on one of its lines, by the registers as they stand and not as a frame sampled them
+abbrev pub cellPlaceOf : Registers → Cell → ℕ → Scan
+cellPlaceOf r c line = record {
+  column = c .column;
+  line = line;
+  row = c .row;
+  base = rowBaseOf r (c .row);
+  start = startOf r;
+  field = 0;
+  adjusting = false;
+}
 
--- a cell's address, by the registers as they stand and not as the frame sampled them
-unfoldable pub cellAddressOf : Registers → Cell → ℕ
-cellAddressOf r c = addressOf r (startOf r) (rowBaseOf r (c .row)) (c .row) (c .column)
+-- the latch that a strike there leaves
+unfoldable pub cellLatchOf : Registers → Cell → ℕ → ℕ
+cellLatchOf r c line = latchOf r (cellPlaceOf r c line)
 
--- the latch that a strike in the cell leaves
-unfoldable pub cellLatchOf : Registers → Cell → ℕ
-cellLatchOf r c = latchedOf (cellAddressOf r c)
-
--- a cell fits a latch when a strike in it would leave that latch
+-- a cell fits a latch when a strike in it would leave that latch. All its lines latch alike, so its first one tells.
 unfoldable pub fitsOf : Registers → ℕ → Cell → Bool
-fitsOf r latch c = eqb (cellLatchOf r c) latch
+fitsOf r latch c = eqb (cellLatchOf r c 0) latch
 
 -- the elements of a list that pass a test
 unfoldable pub keep : {A : Type 0} → (A → Bool) → List A → List A
@@ -83,9 +88,13 @@ joinedOf Many b = Many
 unfoldable pub fitOf : Registers → ℕ → Fit
 fitOf r latch = theFit (keep (fitsOf r latch) (cellsOf r))
 
+-- which of n cells of a row do, from a column on
+unfoldable pub partFitOf : Registers → ℕ → (row column n : ℕ) → Fit
+partFitOf r latch row column n = theFit (keep (fitsOf r latch) (map (cellAt row) (count column n)))
+
 -- which of a row's cells do
 unfoldable pub rowFitOf : Registers → ℕ → ℕ → Fit
-rowFitOf r latch row = theFit (keep (fitsOf r latch) (rowCells r row))
+rowFitOf r latch row = partFitOf r latch row 0 (columnsOf r)
 
 -- the column at which a row reaches a latch, by counting on from its base
 abbrev pub fromBaseOf : ℕ → ℕ → ℕ

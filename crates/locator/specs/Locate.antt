@@ -2,7 +2,8 @@
 use Prim.Native.Nat.{ℕ}
 use Rattle.basics.specs.Choice.{if_then_else_}
 use Rattle.raster.specs.declared.registers.Registers.{Registers}
-use Rattle.controller.specs.declared.pen.Pen.{Pen}
+use Rattle.controller.specs.Pen.{holdsOf, newestOf}
+use Rattle.controller.specs.declared.pen.Strike.{Strike}
 use Rattle.controller.specs.declared.chip.Controller.{Controller}
 use Rattle.locator.specs.Cells.{cellAt, fitOf}
 use Rattle.locator.specs.declared.cells.Cell.{Cell}
@@ -34,10 +35,10 @@ namedOf Free = Nowhere
 namedOf (One c) = At c
 namedOf Many = Several
 
--- where the last strike was, by the registers and the pen: refused in the order 5, 6, 7, 8, or its cell
-abbrev pub strikeFoundOf : Registers → Pen → Located
-strikeFoundOf r pen = if pen .struck then (if pen .inside then namedOf (fitOf r (pen .latch)) else Outside) else Unstruck
+-- where a strike was, by the registers: outside the picture, or in the one cell that fits its latch
+unfoldable pub strikeFoundOf : Registers → Strike → Located
+strikeFoundOf r strike = if strike .inside then namedOf (fitOf r (strike .latch)) else Outside
 
--- the same of a controller: nothing else of it is asked
+-- where the newest strike was. Asked in the order of the refusals 5, 6, 7, 8; of the controller nothing but registers and pen is asked.
 unfoldable pub locateOf : Controller → Located
-locateOf c = strikeFoundOf (c .regs) (c .pen)
+locateOf c = if holdsOf (c .pen) then strikeFoundOf (c .regs) (newestOf (c .pen)) else Unstruck

@@ -1,11 +1,12 @@
-// Where the last strike was.
+// Where the newest strike was.
 ghost use mathlib.Core.Path.{_≡_};
 ghost use Rattle.locator.specs.Cells.{fitOf};
-ghost use Rattle.locator.specs.Locate.{refusalOf, cellOf, namedOf, locateOf};
+ghost use Rattle.locator.specs.Locate.{refusalOf, cellOf, namedOf, strikeFoundOf, locateOf};
 use crate::cells::Cell;
 use crate::fit::Fit;
 use crate::fit::picture_fit;
 use controller::Controller;
+use controller::Strike;
 use raster::Registers;
 
 pub enum Located {
@@ -64,15 +65,23 @@ fn found(r: Registers, latch: u16) -> Located
     named(picture_fit(r, latch))
 }
 
-// Where the last strike of the controller's pen was.
+// Where a strike was.
+fn strike_found(r: Registers, strike: Strike) -> Located
+    ensures { λ q. ⌜ q ≡ strikeFoundOf r strike ⌝ }
+{
+    let inside = strike.inside;
+    if inside {
+        return found(r, strike.latch);
+    }
+    Located::Outside
+}
+
+// Where the newest strike of the controller's pen was.
 pub fn locate(c: Controller) -> Located
     ensures { λ q. ⌜ q ≡ locateOf c ⌝ }
 {
-    if c.pen.struck {
-        if c.pen.inside {
-            return found(c.regs, c.pen.latch);
-        }
-        return Located::Outside;
+    if c.pen.holds() {
+        return strike_found(c.regs, c.pen.newest());
     }
     Located::Unstruck
 }

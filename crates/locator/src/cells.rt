@@ -1,10 +1,10 @@
-// The picture's cells: how many rows and columns there are, and the latch that a strike in a cell leaves.
+// The picture's cells: how many rows and columns there are, and whether a strike in one would leave a latch.
 ghost use mathlib.Core.Path.{_≡_};
 ghost use Prim.Native.Nat.{_+_, _*_, _%_, min};
-ghost use Rattle.locator.specs.Cells.{columnsOf, rowsOf, rowBaseOf, cellLatchOf};
-use facts::address;
-use facts::latched;
+ghost use Rattle.raster.specs.Registers.{rowBaseOf};
+ghost use Rattle.locator.specs.Cells.{columnsOf, rowsOf, cellPlaceOf, fitsOf};
 use raster::Registers;
+use raster::Scan;
 
 #[repr(C)]
 pub struct Cell {
@@ -48,11 +48,27 @@ pub(crate) fn row_base(r: Registers, row: u8) -> u16
     rows_on(r.start(), row, r.held[1])
 }
 
-// The latch that a strike in a cell leaves.
-pub(crate) fn cell_latch(r: Registers, c: Cell) -> u16
-    ensures { λ a. ⌜ a ≡ cellLatchOf r c ⌝ }
+// The place of the scan in a cell, on its first line. The base is its row's.
+fn cell_place(r: Registers, base: u16, c: Cell) -> Scan
+    requires { ⌜ base ≡ rowBaseOf r (c .row) ⌝ }
+    ensures { λ s. ⌜ s ≡ cellPlaceOf r c 0 ⌝ }
 {
-    let base = row_base(r, c.row);
-    let here = address(r, r.start(), base, c.row, c.column);
-    latched(here)
+    let start = r.start();
+    Scan {
+        column: c.column,
+        line: 0,
+        row: c.row,
+        base,
+        start,
+        field: 0,
+        adjusting: false,
+    }
+}
+
+// Whether a strike in a cell would leave a latch.
+pub(crate) fn cell_fits(r: Registers, base: u16, latch: u16, c: Cell) -> bool
+    requires { ⌜ base ≡ rowBaseOf r (c .row) ⌝ }
+    ensures { λ b. ⌜ b ≡ fitsOf r latch c ⌝ }
+{
+    facts::latch(r, cell_place(r, base, c)) == latch
 }

@@ -3,9 +3,11 @@
 ghost use mathlib.Core.Path.{_≡_};
 ghost use mathlib.Core.List.{_∷_, []};
 ghost use Prim.Native.Nat.{ℕ, _<_};
-ghost use Rattle.locator.specs.Cells.{cellAt, cellLatchOf, fitsOf, keep, theFit, joinedOf, rowFitOf, fitOf, fromBaseOf, fromLowOf};
+ghost use mathlib.Core.Bool.{true};
+ghost use Rattle.raster.specs.Registers.{rowBaseOf};
+ghost use Rattle.locator.specs.Cells.{cellAt, fitsOf, keep, theFit, joinedOf, partFitOf, rowFitOf, fitOf, fromBaseOf, fromLowOf};
 use crate::cells::Cell;
-use crate::cells::cell_latch;
+use crate::cells::cell_fits;
 use crate::cells::columns;
 use crate::cells::row_base;
 use crate::cells::rows;
@@ -36,10 +38,11 @@ impl Fit {
     }
 }
 
-fn cell_fit(r: Registers, latch: u16, c: Cell) -> Fit
+fn cell_fit(r: Registers, base: u16, latch: u16, c: Cell) -> Fit
+    requires { ⌜ base ≡ rowBaseOf r (c .row) ⌝ }
     ensures { λ q. ⌜ q ≡ theFit (keep (fitsOf r latch) (c ∷ [])) ⌝ }
 {
-    if cell_latch(r, c) == latch {
+    if cell_fits(r, base, latch, c) {
         return Fit::One(c);
     }
     Fit::Free
@@ -59,24 +62,27 @@ fn from_low(start: u16, latch: u16) -> u16
     (((latch as u32) + 510 - (start as u32) % 256) % 256) as u16
 }
 
-// The one column of a row whose cell can leave a latch: no other below 256 does.
-fn only_column(r: Registers, latch: u16, row: u8) -> u16
-    ensures { λ q. ⌜ ((x : ℕ) → x < 256 → cellLatchOf r (cellAt row x) ≡ latch → x ≡ q) ⌝ }
+// The one column of a row that can fit: no other below 256 does.
+fn only_column(r: Registers, base: u16, latch: u16, row: u8) -> u16
+    requires { ⌜ base ≡ rowBaseOf r row ⌝ }
+    ensures { λ q. ⌜ ((x : ℕ) → x < 256 → fitsOf r latch (cellAt row x) ≡ true → x ≡ q) ⌝ }
 {
     if r.by_rows() {
         return from_low(r.start(), latch);
     }
-    from_base(row_base(r, row), latch)
+    from_base(base, latch)
 }
 
-// Which cells of a row fit.
-fn row_fit(r: Registers, latch: u16, row: u8) -> Fit
-    ensures { λ q. ⌜ q ≡ rowFitOf r latch row ⌝ }
+// Which of a row's first n cells fit.
+fn front_fit(r: Registers, base: u16, latch: u16, row: u8, n: u8) -> Fit
+    requires { ⌜ base ≡ rowBaseOf r row ⌝ }
+    ensures { λ q. ⌜ q ≡ partFitOf r latch row 0 n ⌝ }
 {
-    let k = only_column(r, latch, row);
-    if k < columns(r) as u16 {
+    let k = only_column(r, base, latch, row);
+    if k < n as u16 {
         return cell_fit(
             r,
+            base,
             latch,
             Cell {
                 row,
@@ -87,7 +93,15 @@ fn row_fit(r: Registers, latch: u16, row: u8) -> Fit
     Fit::Free
 }
 
-// Which cells of the picture fit.
+// Which cells of a row fit.
+fn row_fit(r: Registers, base: u16, latch: u16, row: u8) -> Fit
+    requires { ⌜ base ≡ rowBaseOf r row ⌝ }
+    ensures { λ q. ⌜ q ≡ rowFitOf r latch row ⌝ }
+{
+    front_fit(r, base, latch, row, columns(r))
+}
+
+// Which cells of the picture fit. Each row's base is found here and handed down.
 pub(crate) fn picture_fit(r: Registers, latch: u16) -> Fit
     ensures { λ q. ⌜ q ≡ fitOf r latch ⌝ }
 {
@@ -95,7 +109,8 @@ pub(crate) fn picture_fit(r: Registers, latch: u16) -> Fit
     let mut best = Fit::Free;
     let mut k: u8 = 0;
     while k < n {
-        best = best.join(row_fit(r, latch, k));
+        let base = row_base(r, k);
+        best = best.join(row_fit(r, base, latch, k));
         k += 1;
     }
     best

@@ -15,23 +15,20 @@ from-low-requires c κs = search needs
 
 returns : tie.Need-returns
 returns c x h e =
-    let a = c .before .before .before .before .args in
-    let b = c .before .before .before .by-rows in
-    by-low (a .r) (a .row) x (a .latch) h e (sym (b .ensures) ∙ c .before .before .if1 .taken)
+    let by-rows = c .before .before .before in
+    let a = by-rows .before in
+    by-low (a .args .r) (a .args .row) x (a .args .latch) h e (sym (by-rows .by-rows .ensures) ∙ c .before .before .if1 .taken)
     ∙ sym (rw (c .before .start .ensures) at (c .from-low .ensures))
-
-row-base-requires : tie.Need-row-base-requires
-row-base-requires c κs = search needs
 
 from-base-requires : tie.Need-from-base-requires
 from-base-requires c κs = search needs
 
 returns-2 : tie.Need-returns-2
 returns-2 c x h e =
-    let a = c .before .before .before .before .args in
-    let b = c .before .before .before .by-rows in
-    by-base (a .r) (a .row) x (a .latch) h e (sym (b .ensures) ∙ c .before .before .if1 .left)
-    ∙ sym (rw (c .before .row-base .ensures) at (c .from-base .ensures))
+    let by-rows = c .before .before in
+    let a = by-rows .before in
+    by-base (a .args .r) (a .args .row) x (a .args .latch) h e (sym (by-rows .by-rows .ensures) ∙ c .before .if1 .left)
+    ∙ sym (rw (a .pre) at (c .from-base .ensures))
 
 pub only-column-spec : {M : Type 1} → statement M
 only-column-spec =
@@ -41,6 +38,5 @@ only-column-spec =
     start-requires
     from-low-requires
     returns
-    row-base-requires
     from-base-requires
     returns-2)

@@ -3,7 +3,7 @@ use Prim.Native.Nat.{ℕ, _≤_, _-_}
 use mathlib.Core.Path.{_≡_, refl, ap, ap₂, sym, _∙_}
 use native.Mathlib.Omega.{arith}
 use borrow.Author.Needs.{needs}
-use Rattle.locator.specs.Cells.{rowsOf, cellsFrom, fitsOf, keep, theFit, joinedOf, rowFitOf, fitOf}
+use Rattle.locator.specs.Cells.{rowsOf, cellsFrom, fitsOf, keep, theFit, joinedOf, fitOf}
 use Rattle.locator.proofs.Fits.{rows-more}
 use Rattle.locator.proofs.fit.picture_fit.Statement.{statement}
 use Rattle.locator.proofs.fit.picture_fit.Tie as tie
@@ -21,6 +21,9 @@ loop-holds : tie.Need-loop-holds Inv-loop μ-loop
 unfolding theFit keep cellsFrom
 loop-holds c = (omega arith, refl)
 
+row-base-requires : tie.Need-row-base-requires Inv-loop μ-loop
+row-base-requires c κs = search needs
+
 row-fit-requires : tie.Need-row-fit-requires Inv-loop μ-loop
 row-fit-requires c κs = search needs
 
@@ -34,14 +37,14 @@ loop-less : tie.Need-loop-less Inv-loop μ-loop
 loop-less c = omega arith
 
 loop-again : tie.Need-loop-again Inv-loop μ-loop
-unfolding rowFitOf
 loop-again c =
-    let a = c .before .before .before .before .before .args in
-    let l = c .before .before .before .loop in (
+    let turn = c .before .before .before in
+    let l = turn .before .loop in
+    let a = turn .before .before .before .args in (
       omega arith,
       c .join .ensures
           ∙ ap₂ joinedOf (l .inv .1) (c .before .row-fit .ensures)
-          ∙ sym (rows-more (fitsOf (a .r) (a .latch)) (a .r) (l .k)),
+          ∙ sym (rows-more (a .r) (a .latch) (l .k)),
     )
 
 returns : tie.Need-returns Inv-loop μ-loop
@@ -60,6 +63,7 @@ picture-fit-spec =
     μ-loop
     rows-requires
     loop-holds
+    row-base-requires
     row-fit-requires
     join-requires
     add-k

@@ -11,23 +11,14 @@ use Rattle.basics.specs.Choice.{if_then_else_}
 use Rattle.basics.specs.Count.{count}
 use Rattle.raster.specs.Registers.{reg}
 use Rattle.raster.specs.declared.registers.Registers.{Registers}
-use Rattle.locator.specs.Cells.{IsCell, columnsOf, rowsOf, cellAt, rowCells, cellsFrom, cellsOf, keep, theFit}
+use Rattle.basics.proofs.Counting.{mem-count, count-mem}
+use Rattle.locator.specs.Cells.{IsCell, columnsOf, rowsOf, cellAt, rowCells, cellsFrom, cellsOf, fitsOf, keep, theFit, fitOf}
+use Rattle.locator.specs.Locate.{namedOf}
+use Rattle.locator.specs.declared.answer.Located.the-variants.{At, Several}
 use Rattle.locator.specs.declared.cells.Cell.{Cell}
 use Rattle.locator.specs.declared.fit.Fit.the-variants.{One, Many}
 
--- membership in a count, and in a kept list
-mem-count : (x a n : ℕ) → a ≤ x → x < a + n → List·Memᴰ x (count a n)
-unfolding count
-mem-count x a zero h k = absurd (omega arith)
-mem-count x a (suc n) h k =
-    ⊎-elim (λ e. List·Memᴰ·head (sym e)) (λ (l : a < x). List·Memᴰ·tail (mem-count x (suc a) n l (omega arith))) (eq-or-lt-of-le h)
-
-count-mem : (x a n : ℕ) → List·Memᴰ x (count a n) → (a ≤ x) × (x < a + n)
-unfolding count
-count-mem x a zero m = absurd (List·Memᴰ·not-nil m)
-count-mem x a (suc n) m =
-    ⊎-elim (λ (e : x ≡ a). omega arith) (λ t. let q = count-mem x (suc a) n t in omega arith) (List·Memᴰ·cases-cons m)
-
+-- membership in a kept list
 module _ {A : Type 0} (f : A → Bool) where
   later : (b : Bool) (a : A) {x : A} {k : List A} → List·Memᴰ x k → List·Memᴰ x (if b then a ∷ k else k)
   unfolding if_then_else_
@@ -138,15 +129,21 @@ two-several c d [] m n u = absurd (List·Memᴰ·not-nil m)
 two-several c d (e ∷ []) m n u = absurd (u (List·Memᴰ·eq-of-singleton n ∙ sym (List·Memᴰ·eq-of-singleton m)))
 two-several c d (e ∷ f ∷ l) m n u = refl
 
--- of the cells that a test keeps: the one where it keeps no other, several where it keeps another. The test is any test, so that a
--- change of what fits changes nothing here.
-module _ (r : Registers) (narrow : reg r 0 < 256) (f : Cell → Bool) (c : Cell) (i : IsCell r c) (e : f c ≡ true) where
-  pub found : ((d : Cell) → IsCell r d → f d ≡ true → d ≡ c) → theFit (keep f (cellsOf r)) ≡ One c
-  found u =
-      one-named c (keep f (cellsOf r)) 0 (rowsOf r * 256)
+-- Of the cells that fit a latch: the one where no other does, several where another does. The proofs hold for any test, so that a change of
+-- what fits changes nothing here.
+module _ (r : Registers) (narrow : reg r 0 < 256) (latch : ℕ) (c : Cell) (i : IsCell r c) (e : fitsOf r latch c ≡ true) where
+  abbrev f : Cell → Bool
+  f = fitsOf r latch
+
+  pub found : ((d : Cell) → IsCell r d → fitsOf r latch d ≡ true → d ≡ c) → namedOf (fitOf r latch) ≡ At c
+  unfolding fitOf namedOf
+  found u = ap namedOf
+      (one-named c (keep f (cellsOf r)) 0 (rowsOf r * 256)
       (rising-keep f 0 (rowsOf r * 256) (cellsOf r) (rising-cells r (omega arith) 0 (rowsOf r) 0 (rowsOf r * 256) (omega arith) (omega arith)))
       (mem-keep f c (cellsOf r) (mem-cells r c i) e)
-      (λ d m. let q = keep-mem f d (cellsOf r) m in u d (cells-mem r d (q .0)) (q .1))
+      (λ d m. let q = keep-mem f d (cellsOf r) m in u d (cells-mem r d (q .0)) (q .1)))
 
-  pub several : (d : Cell) → IsCell r d → f d ≡ true → (d ≡ c → ⊥) → theFit (keep f (cellsOf r)) ≡ Many
-  several d j k n = two-several c d (keep f (cellsOf r)) (mem-keep f c (cellsOf r) (mem-cells r c i) e) (mem-keep f d (cellsOf r) (mem-cells r d j) k) n
+  pub several : (d : Cell) → IsCell r d → fitsOf r latch d ≡ true → (d ≡ c → ⊥) → namedOf (fitOf r latch) ≡ Several
+  unfolding fitOf namedOf
+  several d j k n =
+      ap namedOf (two-several c d (keep f (cellsOf r)) (mem-keep f c (cellsOf r) (mem-cells r c i) e) (mem-keep f d (cellsOf r) (mem-cells r d j) k) n)
