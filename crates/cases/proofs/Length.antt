@@ -14,9 +14,10 @@ use Rattle.raster.specs.declared.scan.Scan.{Scan}
 use Rattle.controller.specs.Chip.{arrivedOf, resetOf, stepOf, clockOf}
 use Rattle.controller.specs.declared.chip.Controller.{Controller}
 use Rattle.frames.specs.Calls.{clocks, waits, afterWait, afterAct, afterActs, timesIn, timesOf}
-use Rattle.frames.specs.Frames.{frameTimes}
-use Rattle.frames.proofs.Times.{narrow, some-times}
-use Rattle.frames.proofs.Widths.{reached-fits}
+use Rattle.frames.specs.Places.{frameTimes}
+use Rattle.frames.proofs.Placing.{narrow}
+use Rattle.frames.proofs.Times.{some-times}
+use Rattle.frames.proofs.Reached.{reached-within}
 use Rattle.settled.specs.Cases.{writesOf, writtenOf, setOf}
 use Rattle.settled.proofs.Table.{table}
 
@@ -36,13 +37,13 @@ module _ (k : List ℕ) where
   -- a frame has a character time at least
   some : 1 ≤ frameTimes (setOf k .regs)
   unfolding writtenOf resetOf arrivedOf
-  some = some-times (writtenOf k .regs) (narrow (writtenOf k .regs) (reached-fits (writesOf k) .regs))
+  some = some-times (writtenOf k .regs) (narrow (writtenOf k .regs) (reached-within (writesOf k) .regs))
 
   -- and never more than the 256 x (128 x 32 + 31) of case c
   few : frameTimes (setOf k .regs) ≤ 1056512
   unfolding writtenOf resetOf arrivedOf
   few =
-      let w = narrow (writtenOf k .regs) (reached-fits (writesOf k) .regs) in
+      let w = narrow (writtenOf k .regs) (reached-within (writesOf k) .regs) in
       within {c = 256} {d = 4127} (omega (arith, w .r0)) (omega (arith, w .r5, within {a = reg (writtenOf k .regs) 4 + 1} {b = reg (writtenOf k .regs) 9 + 1} {c = 128} {d = 32} (omega (arith, w .r4)) (omega (arith, w .r9))))
 
   start-field : setOf k .scan .field ≡ 0

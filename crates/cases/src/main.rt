@@ -7,7 +7,7 @@ ghost use mathlib.Core.List.{[]};
 ghost use mathlib.Core.Path.{_≡_};
 ghost use lib.ListN.{getD};
 ghost use Rattle.controller.specs.Chip.{writeOf};
-ghost use Rattle.frames.specs.Frames.{frameTimes};
+ghost use Rattle.frames.specs.Places.{frameTimes};
 ghost use Rattle.settled.specs.Cases.{cases, setOf, reachedOf, seenOf};
 use controller::Controller;
 use libc::STDOUT_FILENO;
@@ -85,6 +85,7 @@ fn seen(k: [u8; 8]) -> [u32; 8]
     let frame = frame_length(k);
     let c = reached(k, set(k));
     let o = c.outputs();
+    let newest = c.pen.newest();
     let found = locate(c);
     let cell = found.cell();
     [
@@ -92,7 +93,7 @@ fn seen(k: [u8; 8]) -> [u32; 8]
         basics::number(o.picture) as u32,
         basics::number(c.scan.adjusting) as u32,
         o.ma as u32,
-        c.pen.latch as u32,
+        newest.latch as u32,
         found.refusal() as u32,
         cell.row as u32,
         cell.column as u32,

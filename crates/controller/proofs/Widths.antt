@@ -17,7 +17,7 @@ use Rattle.raster.specs.declared.registers.Registers.{Registers}
 use Rattle.raster.proofs.Widths.{top-within, next-within, arrive-within}
 use Rattle.facts.proofs.Addresses.{latch-lt}
 use Rattle.controller.specs.Writes.{keptOf, addressedOf, storedOf, writtenOf}
-use Rattle.controller.specs.Pen.{noPen, strikeAt, newestOf, struckOf, emptiedOf}
+use Rattle.controller.specs.Pen.{noPen, newestOf, struckOf, emptiedOf}
 use Rattle.controller.specs.Chip.{noSync, noRegisters, withPen, arrivedOf, freshOf, resetOf, writeOf, stepOf, clockOf, strikeOf}
 use Rattle.controller.specs.Reads.{readOf}
 use Rattle.controller.specs.Widths.{Within}
@@ -77,7 +77,7 @@ module _ (c : Controller) (f : Within c) where
   write-within rs v = record { regs = written-within (c .regs) v (f .regs) rs; scan = f .scan; sync = f .sync; latch = f .latch }
 
   pub strike-within : Within (strikeOf c)
-  unfolding strikeOf strikeAt newestOf struckOf
+  unfolding strikeOf newestOf struckOf
   strike-within = record { regs = f .regs; scan = f .scan; sync = f .sync; latch = latch-lt (c .regs) (c .scan) }
 
   emptied-within : Within (withPen (emptiedOf (c .pen)) c)

@@ -12,7 +12,7 @@ unfoldable pub noPen : Pen
 noPen = record { last = record { latch = 0; inside = false }; any = false; full = false }
 
 -- a strike at a character: the latch, and whether the character is in the picture (the fact, not the pin)
-unfoldable pub strikeAt : Registers → Scan → Strike
+abbrev pub strikeAt : Registers → Scan → Strike
 strikeAt r s = record { latch = latchOf r s; inside = pictureOf r s }
 
 -- a strike more: an earlier one is forgotten, and L is set

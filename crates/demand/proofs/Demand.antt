@@ -90,12 +90,10 @@ module _ (c : Controller) (w : RegistersWithin (c .regs)) where
         ∙ ap (λ (q : Registers). strikeFoundOf q (strikeAt q (b .scan))) (frames c w .registers before)
 
     struck-outside : pictureOf r s ≡ false → answerTo c before more ≡ Outside
-    unfolding strikeAt
     struck-outside e = struck ∙ found-outside r (strikeAt r s) e
 
     module _ (e : pictureOf r s ≡ true) where
       struck-inside : answerTo c before more ≡ namedOf (fitOf r (latchOf r s))
-      unfolding strikeAt
       struck-inside = struck ∙ found-inside r (strikeAt r s) e
 
       region : Region r (s .line) (s .row) (s .base) false

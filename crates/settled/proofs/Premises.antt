@@ -11,11 +11,12 @@ use Rattle.basics.specs.Iterate.{iterate}
 use Rattle.raster.specs.Scan.{lineEndOf, moveOf, movedOf, nextOf}
 use Rattle.facts.specs.Facts.{pictureOf, addressOf, maOf, latchOf}
 use Rattle.controller.specs.Chip.{arrivedOf, freshOf, resetOf, writeOf, stepOf, clockOf, strikeOf}
-use Rattle.controller.specs.Reads.{emptiedOf, afterReadOf, registerReadOf, readOf}
+use Rattle.controller.specs.Pen.{noPen, struckOf, emptiedOf, holdsOf, newestOf, unreadOf}
+use Rattle.controller.specs.Reads.{afterReadOf, registerReadOf, readOf}
 use Rattle.controller.specs.Writes.{addressedOf, storedOf, writtenOf}
 use Rattle.frames.specs.Calls.{afterCall, afterCalls, afterWait, afterAct, afterActs}
-use Rattle.locator.specs.Cells.{cellsFrom, cellAddressOf, cellLatchOf, fitsOf, keep, theFit, fitOf}
-use Rattle.locator.specs.Locate.{refusalOf, namedOf, locateOf}
+use Rattle.locator.specs.Cells.{cellsFrom, cellLatchOf, fitsOf, keep, theFit, fitOf}
+use Rattle.locator.specs.Locate.{refusalOf, namedOf, strikeFoundOf, locateOf}
 use Rattle.locator.specs.declared.cells.Cell.{Cell}
 use Rattle.demand.specs.Demand.{struckAt, answerTo, Rival}
 use Rattle.demand.proofs.Demand.{demand3-reached}
@@ -25,7 +26,7 @@ use Rattle.settled.specs.Premises.{A, waited, Premises}
 
 -- case d is answered with a cell
 d-number : refusalOf (answerTo A (waited 1) []) ≡ 0
-unfolding if_then_else_ iterate lineEndOf moveOf movedOf nextOf pictureOf addressOf maOf latchOf arrivedOf freshOf resetOf writeOf stepOf clockOf strikeOf addressedOf storedOf writtenOf afterCall afterCalls afterWait afterAct afterActs count cellsFrom cellAddressOf cellLatchOf fitsOf keep theFit fitOf namedOf locateOf cases.writtenOf
+unfolding if_then_else_ iterate lineEndOf moveOf movedOf nextOf pictureOf addressOf maOf latchOf arrivedOf freshOf resetOf writeOf stepOf clockOf strikeOf addressedOf storedOf writtenOf afterCall afterCalls afterWait afterAct afterActs count cellsFrom cellLatchOf fitsOf keep theFit fitOf namedOf strikeFoundOf locateOf noPen struckOf holdsOf newestOf cases.writtenOf
 d-number = refl
 
 d-inside : pictureOf (A .regs) (struckAt A (waited 1)) ≡ true
@@ -39,7 +40,7 @@ d-alone d v =
     let e : _≡_ {A = ℕ} 0 8 = sym d-number ∙ demand3-reached (writesOf (inA 0 0)) .shared (waited 1) [] d-inside d v in absurd (omega arith)
 
 pub premises : Premises
-unfolding if_then_else_ iterate lineEndOf moveOf movedOf nextOf pictureOf addressOf maOf latchOf arrivedOf freshOf resetOf writeOf stepOf clockOf strikeOf addressedOf storedOf writtenOf emptiedOf afterReadOf registerReadOf readOf afterCall afterCalls afterWait afterAct afterActs cellAddressOf cellLatchOf cases.writtenOf
+unfolding if_then_else_ iterate lineEndOf moveOf movedOf nextOf pictureOf addressOf maOf latchOf arrivedOf freshOf resetOf writeOf stepOf clockOf strikeOf addressedOf storedOf writtenOf emptiedOf unreadOf struckOf noPen afterReadOf registerReadOf readOf afterCall afterCalls afterWait afterAct afterActs cellLatchOf fitsOf cases.writtenOf
 premises = record {
   inside = d-inside;
   alone = d-alone;
@@ -49,7 +50,7 @@ premises = record {
   inside-too = refl;
   rival = record {
     cell = record { row< = lit< tt; row≤ = lit< tt; column< = lit< tt; column≤ = lit< tt };
-    latch = refl;
+    fits = refl;
     other = λ e. let z : _≡_ {A = ℕ} 126 0 = ap (λ (c : Cell). c .row) e in absurd (omega arith);
   };
   full = refl;

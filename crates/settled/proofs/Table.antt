@@ -12,12 +12,13 @@ use Rattle.raster.specs.Sync.{hsyncOf, vsyncStartsOf, vsyncWidthOf, vsyncOf, ar
 use Rattle.facts.specs.Facts.{pictureOf, addressOf, maOf, latchOf, blinkOf, cursorLineOf, cursorOf, factsOf}
 use Rattle.controller.specs.Chip.{arrivedOf, freshOf, resetOf, writeOf, stepOf, clockOf, strikeOf}
 use Rattle.controller.specs.Writes.{addressedOf, storedOf, writtenOf}
+use Rattle.controller.specs.Pen.{noPen, struckOf, holdsOf, newestOf}
 use Rattle.controller.specs.Pins.{pinOf, outputsOf}
 use Rattle.frames.specs.Calls.{afterCall, afterCalls}
 use Rattle.frames.proofs.Frames.{frames}
-use Rattle.frames.proofs.Widths.{reached-fits}
-use Rattle.locator.specs.Cells.{cellsFrom, cellAddressOf, cellLatchOf, fitsOf, keep, theFit, fitOf}
-use Rattle.locator.specs.Locate.{namedOf, locateOf}
+use Rattle.frames.proofs.Reached.{reached-within}
+use Rattle.locator.specs.Cells.{cellsFrom, cellLatchOf, fitsOf, keep, theFit, fitOf}
+use Rattle.locator.specs.Locate.{namedOf, strikeFoundOf, locateOf}
 use Rattle.settled.specs.Cases as cases
 use Rattle.settled.specs.Cases.{writesOf, reachedOf, lookedOf, seenOf, cases, settled, Settled}
 
@@ -26,7 +27,7 @@ abbrev Row : ℕ → Type 0
 Row k = seenOf (getD cases k []) ≡ getD settled k []
 
 shown : map seenOf cases ≡ settled
-unfolding if_then_else_ iterate lineEndOf moveOf movedOf nextOf hsyncOf vsyncStartsOf vsyncWidthOf vsyncOf arriveOf pictureOf addressOf maOf latchOf blinkOf cursorLineOf cursorOf factsOf arrivedOf freshOf resetOf writeOf stepOf clockOf strikeOf addressedOf storedOf writtenOf pinOf outputsOf afterCall afterCalls count cellsFrom cellAddressOf cellLatchOf fitsOf keep theFit fitOf namedOf locateOf cases.writtenOf reachedOf lookedOf seenOf
+unfolding if_then_else_ iterate lineEndOf moveOf movedOf nextOf hsyncOf vsyncStartsOf vsyncWidthOf vsyncOf arriveOf pictureOf addressOf maOf latchOf blinkOf cursorLineOf cursorOf factsOf arrivedOf freshOf resetOf writeOf stepOf clockOf strikeOf addressedOf storedOf writtenOf pinOf outputsOf afterCall afterCalls count cellsFrom cellLatchOf fitsOf keep theFit fitOf namedOf strikeFoundOf locateOf noPen struckOf holdsOf newestOf cases.writtenOf reachedOf lookedOf seenOf
 shown = a then b then c then d then e then f then g then h then i then j then refl
   where
     a : Row 0
@@ -61,4 +62,4 @@ shown = a then b then c then d then e then f then g then h then i then j then re
 
 pub table : Settled
 unfolding cases.writtenOf
-table = record { table = shown; frames = λ k. frames (cases.writtenOf k) (reached-fits (writesOf k) .regs) }
+table = record { table = shown; frames = λ k. frames (cases.writtenOf k) (reached-within (writesOf k) .regs) }

@@ -9,10 +9,12 @@ use lib.ListN.{getD}
 use Rattle.basics.specs.Choice.{if_then_else_}
 use Rattle.basics.specs.Bits.{num}
 use Rattle.controller.specs.Chip.{freshOf, resetOf, clockOf, strikeOf}
+use Rattle.controller.specs.Pen.{newestOf}
 use Rattle.controller.specs.Pins.{outputsOf}
 use Rattle.controller.specs.declared.chip.Controller.{Controller}
 use Rattle.frames.specs.Calls.{Call, write, afterCalls}
-use Rattle.frames.specs.Frames.{frameTimes, Frames}
+use Rattle.frames.specs.Frames.{Frames}
+use Rattle.frames.specs.Places.{frameTimes}
 use Rattle.locator.specs.Locate.{refusalOf, cellOf, locateOf}
 
 -- A case is eight numbers: what is written to R0, R1, R4, R5, R6 and R9 (all others stay 0), how many clocks, and 1 for a strike.
@@ -42,7 +44,7 @@ reachedOf k c = if eqb (at k 7) 1 then strikeOf (clockOf (at k 6) c) else clockO
 -- what is looked at: the picture fact, adjusting, MA, the latch, and the locator's refusal, row and column
 unfoldable pub lookedOf : Controller → List ℕ
 lookedOf c =
-    num (outputsOf c .picture) ∷ num (c .scan .adjusting) ∷ outputsOf c .ma ∷ c .pen .latch
+    num (outputsOf c .picture) ∷ num (c .scan .adjusting) ∷ outputsOf c .ma ∷ newestOf (c .pen) .latch
     ∷ refusalOf (locateOf c) ∷ cellOf (locateOf c) .row ∷ cellOf (locateOf c) .column ∷ []
 
 -- what is seen of a case: its frame's length in character times, and then that

@@ -5,10 +5,11 @@ use mathlib.Core.Bool.{true, false}
 use mathlib.Core.List.{List, [], _∷_}
 use Rattle.facts.specs.Facts.{pictureOf, latchOf}
 use Rattle.controller.specs.Chip.{freshOf, resetOf, writeOf}
+use Rattle.controller.specs.Pen.{unreadOf}
 use Rattle.controller.specs.Writes.{keptOf}
 use Rattle.controller.specs.declared.chip.Controller.{Controller}
 use Rattle.frames.specs.Calls.{Call, afterCalls, clocks, reads, Act, waits, strikes, afterActs}
-use Rattle.locator.specs.Cells.{IsCell, cellAt, cellLatchOf}
+use Rattle.locator.specs.Cells.{IsCell, cellAt, fitsOf}
 use Rattle.locator.specs.declared.cells.Cell.{Cell}
 use Rattle.demand.specs.Demand.{struckAt, Rival}
 use Rattle.settled.specs.Cases.{put, writtenOf, inA, inTall}
@@ -46,16 +47,16 @@ pub record Premises : Type 0 where
   -- case d: a strike in the picture that no other cell rivals
   pub inside : pictureOf (A .regs) (struckAt A (waited 1)) ≡ true
   pub alone : (d : Cell) → Rival A (struckAt A (waited 1)) d → ⊥
-  -- case e: one outside it, and a cell that shares its latch, the one of case f
+  -- case e: one outside it, and a cell that fits its latch, the one of case f
   pub outside : pictureOf (A .regs) (struckAt A (waited 2)) ≡ false
   pub cell : IsCell (A .regs) (cellAt 1 0)
-  pub shares : cellLatchOf (A .regs) (cellAt 1 0) ≡ latchOf (A .regs) (struckAt A (waited 2))
+  pub shares : fitsOf (A .regs) (latchOf (A .regs) (struckAt A (waited 2))) (cellAt 1 0) ≡ true
   -- case i: one in the picture that another cell rivals
   pub inside-too : pictureOf (Tall .regs) (struckAt Tall []) ≡ true
   pub rival : Rival Tall (struckAt Tall []) (cellAt 126 4)
   -- a read that changes something: L, which the strike set
-  pub full : struck .pen .full ≡ true
-  pub emptied : struckAndRead .pen .full ≡ false
+  pub full : unreadOf (struck .pen) ≡ true
+  pub emptied : unreadOf (struckAndRead .pen) ≡ false
   -- every setting can be reached: sixteen numbers written are held, each cut to its register's width
   pub settings : (v0 v1 v2 v3 v4 v5 v6 v7 v8 v9 v10 v11 v12 v13 v14 v15 : ℕ)
       → (let l = v0 ∷ v1 ∷ v2 ∷ v3 ∷ v4 ∷ v5 ∷ v6 ∷ v7 ∷ v8 ∷ v9 ∷ v10 ∷ v11 ∷ v12 ∷ v13 ∷ v14 ∷ v15 ∷ [] in

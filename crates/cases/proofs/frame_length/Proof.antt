@@ -1,7 +1,7 @@
 use Prim.Native.Nat.{_-_}
 use borrow.Author.Needs.{needs}
 use native.Mathlib.Omega.{arith}
-use Rattle.frames.specs.Frames.{frameTimes}
+use Rattle.frames.specs.Places.{frameTimes}
 use Rattle.cases.proofs.Length.{Counted, counted-one, counted-more, before, over}
 use Rattle.cases.proofs.frame_length.Statement.{statement}
 use Rattle.cases.proofs.frame_length.Tie as tie

@@ -15,6 +15,9 @@ reached-requires c κs = search needs
 outputs-requires : tie.Need-outputs-requires
 outputs-requires c κs = search needs
 
+newest-requires : tie.Need-newest-requires
+newest-requires c κs = search needs
+
 locate-requires : tie.Need-locate-requires
 locate-requires c κs = search needs
 
@@ -59,10 +62,11 @@ returns c =
     let picture = adjusting .before in
     let cell = picture .before in
     let locate = cell .before in
-    let outputs = locate .before in
+    let newest = locate .before in
+    let outputs = newest .before in
     let reached = outputs .before in
     let set = reached .before in
-    rw (refusal .refusal .ensures, adjusting .number2 .ensures, picture .number .ensures, cell .cell .ensures, locate .locate .ensures, outputs .outputs .ensures, reached .reached .ensures, set .set .ensures, set .before .frame-length .ensures)
+    rw (refusal .refusal .ensures, adjusting .number2 .ensures, picture .number .ensures, cell .cell .ensures, locate .locate .ensures, newest .newest .ensures, outputs .outputs .ensures, reached .reached .ensures, set .set .ensures, set .before .frame-length .ensures)
 
 pub seen-spec : {M : Type 1} → statement M
 seen-spec =
@@ -72,6 +76,7 @@ seen-spec =
     set-requires
     reached-requires
     outputs-requires
+    newest-requires
     locate-requires
     cell-requires
     number-requires

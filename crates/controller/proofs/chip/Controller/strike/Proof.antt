@@ -1,6 +1,5 @@
 use mathlib.Core.Path.{ap}
 use Rattle.controller.specs.Chip.{withPen, strikeOf}
-use Rattle.controller.specs.Pen.{strikeAt}
 use Rattle.controller.specs.Pins.{outputsOf}
 use Rattle.controller.specs.declared.pen.Pen.{Pen}
 use borrow.Author.Needs.{needs}
@@ -17,7 +16,7 @@ struck-requires : tie.Need-struck-requires
 struck-requires c κs = search needs
 
 returns : tie.Need-returns
-unfolding strikeOf strikeAt outputsOf
+unfolding strikeOf outputsOf
 returns c =
     let latch = c .before in
     let start = latch .before .before .before in
