@@ -27,14 +27,11 @@ cell-requires c κs = search needs
 number-requires : tie.Need-number-requires
 number-requires c κs = search needs
 
-cast-t9 : tie.Need-cast-t9
-cast-t9 c = search needs
+cast-t10 : tie.Need-cast-t10
+cast-t10 c = search needs
 
 number-requires-2 : tie.Need-number-requires-2
 number-requires-2 c κs = search needs
-
-cast-t11 : tie.Need-cast-t11
-cast-t11 c = search needs
 
 cast-t12 : tie.Need-cast-t12
 cast-t12 c = search needs
@@ -42,17 +39,20 @@ cast-t12 c = search needs
 cast-t13 : tie.Need-cast-t13
 cast-t13 c = search needs
 
+cast-t14 : tie.Need-cast-t14
+cast-t14 c = search needs
+
 refusal-requires : tie.Need-refusal-requires
 refusal-requires c κs = search needs
-
-cast-t15 : tie.Need-cast-t15
-cast-t15 c = search needs
 
 cast-t16 : tie.Need-cast-t16
 cast-t16 c = search needs
 
 cast-t17 : tie.Need-cast-t17
 cast-t17 c = search needs
+
+cast-t18 : tie.Need-cast-t18
+cast-t18 c = search needs
 
 returns : tie.Need-returns
 unfolding seenOf lookedOf
@@ -80,13 +80,13 @@ seen-spec =
     locate-requires
     cell-requires
     number-requires
-    cast-t9
+    cast-t10
     number-requires-2
-    cast-t11
     cast-t12
     cast-t13
+    cast-t14
     refusal-requires
-    cast-t15
     cast-t16
     cast-t17
+    cast-t18
     returns)
