@@ -12,9 +12,10 @@ struct registers { u8 held[16], named; };
 struct scan { u8 column, line, row; u16 base, start; u8 field; _Bool adjusting; };
 struct sync { u8 hsync, vsync; };
 struct facts { _Bool picture, cursor; };
-struct pen { u16 latch; _Bool inside, struck, full; };
+struct strike { u16 latch; _Bool inside; };
+struct pen { struct strike last; _Bool any, full; };
 
-/* Zeroed and then reset, it is as after power-on. A host writes regs itself, and cuts each byte to the bits that its register has. */
+/* Begins with controller_fresh; the calls below do all the rest. */
 struct controller {
     struct registers regs;
     struct scan scan;
@@ -24,12 +25,18 @@ struct controller {
 };
 
 struct found { u8 refusal, row, column; };
-struct counted { u16 b; u8 x, y; };
+struct outputs { u16 ma; u8 ra; _Bool picture, display, cursor, hsync, vsync; };
+struct reading { _Bool driven; u8 value; struct controller controller; };
+struct display { u16 b; u8 x, y; };
 
+struct controller controller_fresh(void);
 struct controller controller_reset(struct controller c);
+struct controller controller_write(struct controller c, _Bool rs, u8 value);
+struct reading controller_read(struct controller c, _Bool rs);
+struct outputs controller_outputs(struct controller c);
 struct controller controller_clock(struct controller c, u16 n);
 struct controller controller_strike(struct controller c);
 struct found controller_locate(struct controller c);
-struct counted display_fetches(u16 bits, struct counted from, u16 n);
+struct display display_fetches(u16 bits, struct display from, u16 n);
 
 #endif

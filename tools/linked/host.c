@@ -1,7 +1,7 @@
 /*
  * A host that knows the proved code by its header alone. It replays a batch from standard input through the linked calls and prints
- * the listing of it. What a character time shows it works out itself from the controller's fields, by document 01's rules, so that
- * every field is looked at. It does the records that the calls are for, and of the bus cycles the control writes.
+ * the listing of it. What a character time shows it also works out itself from the controller's fields, by document 01's rules, so
+ * that every field is looked at. It does the records that the calls are for, and of the bus cycles the control writes.
  */
 #include "vorstelpijp.h"
 
@@ -14,57 +14,25 @@ enum { WRITE = 1, READ, CLOCK, STRIKE, RESET, BUS, FETCH, LOCATE = 9 };
 enum { NO_STRIKE = 5, OUTSIDE = 6 };
 enum { CONTROL = 0xffc0, RATES = 0x1800, FAST = 0x1000, M0 = 0x2000, M1 = 0x4000, TY = 0x8000 };
 
-/* The bits that each register keeps. */
-static const u8 masks[16] = {255, 255, 255, 255, 127, 31, 127, 127, 255, 31, 127, 31, 63, 255, 63, 255};
-
 /* The limits of the two dividers, by V2 V1 V0, and the fetches within which each divider has counted. */
 static const struct { u8 x, y; } limits[8] = {{1, 12}, {3, 1}, {1, 3}, {2, 1}, {1, 2}, {1, 1}, {1, 1}, {1, 1}};
 enum { BOTH_COUNTED = 96 };
 
 static struct controller chip;
 static u16 bits;
-static struct counted counter;
+static struct display counter;
 
 /* The answer to the record at hand. */
 static unsigned refusal;
 static u8 body[BODY];
 static const char *trouble;
 
-static void write_byte(int rs, u8 byte)
-{
-    if (!rs)
-        chip.regs.named = byte % 32;
-    else if (chip.regs.named < 16)
-        chip.regs.held[chip.regs.named] = byte & masks[chip.regs.named];
-}
-
-static u8 status(void)
-{
-    _Bool blank = chip.scan.adjusting || chip.scan.row >= chip.regs.held[6];
-    return 64 * chip.pen.full + 32 * blank;
-}
-
-static u8 register_read(void)
-{
-    switch (chip.regs.named) {
-    case 14:
-    case 15:
-        return chip.regs.held[chip.regs.named];
-    case 16:
-        chip.pen.full = 0;
-        return chip.pen.latch / 256;
-    case 17:
-        chip.pen.full = 0;
-        return chip.pen.latch % 256;
-    default:
-        return 0;
-    }
-}
-
 static void read_byte(int rs)
 {
-    body[0] = !rs || chip.regs.named != 31;
-    body[1] = rs ? register_read() : status();
+    struct reading got = controller_read(chip, rs);
+    body[0] = got.driven;
+    body[1] = got.value;
+    chip = got.controller;
 }
 
 static unsigned address(void)
@@ -110,21 +78,25 @@ static void show_character(void)
     body[1] = address() % 256;
     body[2] = chip.scan.line;
     body[3] = in_picture() + 2 * display + 4 * cursor + 8 * (chip.sync.hsync > 0) + 16 * (chip.sync.vsync > 0);
+    struct outputs o = controller_outputs(chip);
+    u8 told = o.picture + 2 * o.display + 4 * o.cursor + 8 * o.hsync + 16 * o.vsync;
+    if (o.ma != address() || o.ra != body[2] || told != body[3])
+        trouble = "outputs that the fields do not show";
 }
 
 static void strike(void)
 {
     chip = controller_strike(chip);
-    body[0] = chip.pen.latch / 256;
-    body[1] = chip.pen.latch % 256;
-    body[2] = chip.pen.inside;
+    body[0] = chip.pen.last.latch / 256;
+    body[1] = chip.pen.last.latch % 256;
+    body[2] = chip.pen.last.inside;
 }
 
 /* The pen's own fields decide the first two refusals. */
 static void locate(void)
 {
     struct found found = controller_locate(chip);
-    refusal = !chip.pen.struck ? NO_STRIKE : !chip.pen.inside ? OUTSIDE : found.refusal;
+    refusal = !chip.pen.any ? NO_STRIKE : !chip.pen.last.inside ? OUTSIDE : found.refusal;
     body[0] = found.row;
     body[1] = found.column;
 }
@@ -136,7 +108,7 @@ static void reset(int multiplexer)
         return;
     }
     bits = 0;
-    counter = (struct counted){0, 0, 0};
+    counter = (struct display){0, 0, 0};
 }
 
 /* A control write, judged with the bits before it. */
@@ -175,7 +147,7 @@ static void answer(const u8 record[RECORD])
     for (int k = 0; k < BODY; k++)
         body[k] = 0;
     switch (record[0]) {
-    case WRITE: write_byte(record[2], record[3]); break;
+    case WRITE: chip = controller_write(chip, record[2], record[3]); break;
     case READ: read_byte(record[2]); break;
     case CLOCK: chip = controller_clock(chip, n); show_character(); break;
     case STRIKE: strike(); break;
@@ -205,7 +177,7 @@ int main(void)
     long size = 0, got;
     while ((got = read(0, batch + size, MOST - size)) > 0)
         size += got;
-    chip = controller_reset(chip);
+    chip = controller_fresh();
     for (long at = 0; at + RECORD <= size; at += RECORD) {
         answer(batch + at);
         print_answer(batch[at]);

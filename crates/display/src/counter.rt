@@ -6,6 +6,7 @@ ghost use Rattle.display.specs.Counter.{startOf, withB, advanced, countY
 ghost use Rattle.display.specs.Run.{Run};
 
 // The display address B, and the dividers X (between B3 and B4) and Y (between B4 and B5).
+#[repr(C)]
 pub struct Display {
     pub b: u16,
     pub x: u8,

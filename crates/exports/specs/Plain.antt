@@ -7,24 +7,15 @@ use Rattle.display.specs.declared.counter.Display.{Display}
 use Rattle.multiplexer.specs.Chip.{freshOf, withControl, withDisplay, fetchesOf}
 use Rattle.multiplexer.specs.declared.chip.Multiplexer.{Multiplexer}
 use Rattle.exports.specs.declared.Found.{Found}
-use Rattle.exports.specs.declared.Counted.{Counted}
 
 -- an answer of the locator: its number in the table of refusals, and its cell
 abbrev pub foundOf : Located → Found
 foundOf q = record { refusal = refusalOf q; row = cellOf q .row; column = cellOf q .column }
 
--- a display counter by its three numbers
-abbrev pub displayAt : Counted → Display
-displayAt k = record { b = k .b; x = k .x; y = k .y }
-
--- and back
-abbrev pub counterOf : Display → Counted
-counterOf d = record { b = d .b; x = d .x; y = d .y }
-
 -- a fresh multiplexer but for its control bits and its display counter
-abbrev pub multiplexerAt : ℕ → Counted → Multiplexer
-multiplexerAt bits k = withDisplay (displayAt k) (withControl (record { bits = bits }) freshOf)
+abbrev pub multiplexerAt : ℕ → Display → Multiplexer
+multiplexerAt bits d = withDisplay d (withControl (record { bits = bits }) freshOf)
 
 -- where n display fetches bring the counter under those control bits
-abbrev pub countedOf : ℕ → Counted → ℕ → Counted
-countedOf bits k n = counterOf (fetchesOf (multiplexerAt bits k) n .display)
+abbrev pub fetchedOf : ℕ → Display → ℕ → Display
+fetchedOf bits d n = fetchesOf (multiplexerAt bits d) n .display

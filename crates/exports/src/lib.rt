@@ -1,11 +1,15 @@
 // The calls that programs in other languages link, each by value and over plain data: the controller's, the locator's answer as numbers,
 // and the display counter. include/vorstelpijp.h declares them for C.
 ghost use mathlib.Core.Path.{_≡_};
-ghost use Rattle.controller.specs.Chip.{resetOf, clockOf, strikeOf};
+ghost use Rattle.controller.specs.Chip.{freshOf, resetOf, writeOf, clockOf, strikeOf};
+ghost use Rattle.controller.specs.Pins.{outputsOf};
+ghost use Rattle.controller.specs.Reads.{readOf};
 ghost use Rattle.locator.specs.Locate.{locateOf};
-ghost use Rattle.exports.specs.Plain.{foundOf, countedOf};
+ghost use Rattle.exports.specs.Plain.{foundOf, fetchedOf};
 use control::Control;
 use controller::Controller;
+use controller::Outputs;
+use controller::Reading;
 use display::Display;
 use multiplexer::Multiplexer;
 
@@ -17,12 +21,12 @@ pub struct Found {
     pub column: u8,
 }
 
-// The multiplexer's display address and its two dividers.
-#[repr(C)]
-pub struct Counted {
-    pub b: u16,
-    pub x: u8,
-    pub y: u8,
+// The power-on state.
+#[no_mangle]
+pub extern "C" fn controller_fresh() -> Controller
+    ensures { λ r. ⌜ r ≡ freshOf ⌝ }
+{
+    Controller::fresh()
 }
 
 #[no_mangle]
@@ -30,6 +34,30 @@ pub extern "C" fn controller_reset(c: Controller) -> Controller
     ensures { λ r. ⌜ r ≡ resetOf c ⌝ }
 {
     c.reset()
+}
+
+// A register write, by RS.
+#[no_mangle]
+pub extern "C" fn controller_write(c: Controller, rs: bool, value: u8) -> Controller
+    ensures { λ r. ⌜ r ≡ writeOf c rs value ⌝ }
+{
+    c.write(rs, value)
+}
+
+// A read, by RS: what it brings, and the controller after it.
+#[no_mangle]
+pub extern "C" fn controller_read(c: Controller, rs: bool) -> Reading
+    ensures { λ r. ⌜ r ≡ readOf c rs ⌝ }
+{
+    c.read(rs)
+}
+
+// The outputs at this character.
+#[no_mangle]
+pub extern "C" fn controller_outputs(c: Controller) -> Outputs
+    ensures { λ r. ⌜ r ≡ outputsOf c ⌝ }
+{
+    c.outputs()
 }
 
 // n character times.
@@ -48,7 +76,7 @@ pub extern "C" fn controller_strike(c: Controller) -> Controller
     c.strike()
 }
 
-// Where the last strike was.
+// Where the newest strike was.
 #[no_mangle]
 pub extern "C" fn controller_locate(c: Controller) -> Found
     ensures { λ r. ⌜ r ≡ foundOf (locateOf c) ⌝ }
@@ -64,22 +92,12 @@ pub extern "C" fn controller_locate(c: Controller) -> Found
 
 // n display fetches under given control bits.
 #[no_mangle]
-pub extern "C" fn display_fetches(bits: u16, from: Counted, n: u16) -> Counted
-    ensures { λ r. ⌜ r ≡ countedOf bits from n ⌝ }
+pub extern "C" fn display_fetches(bits: u16, from: Display, n: u16) -> Display
+    ensures { λ r. ⌜ r ≡ fetchedOf bits from n ⌝ }
 {
     let control = Control { bits: bits };
-    let display = Display {
-        b: from.b,
-        x: from.x,
-        y: from.y,
-    };
     let mut m = Multiplexer::fresh();
     m.control = control;
-    m.display = display;
-    let after = m.fetches(n).display;
-    Counted {
-        b: after.b,
-        x: after.x,
-        y: after.y,
-    }
+    m.display = from;
+    m.fetches(n).display
 }
