@@ -4,7 +4,7 @@ use Prim.Native.Nat.{ℕ, _+_, _*_}
 use Rattle.basics.specs.Bits.{num, highOf, lowOf}
 use Rattle.answer.specs.Answer.{doneOf}
 use Rattle.answer.specs.declared.Answer.{Answer}
-use Rattle.controller.specs.declared.pen.Pen.{Pen}
+use Rattle.pen.specs.declared.pen.Pen.{Pen}
 use Rattle.controller.specs.declared.pins.Outputs.{Outputs}
 use Rattle.controller.specs.declared.reads.Reading.{Reading}
 use Rattle.locator.specs.Locate.{refusalOf, cellOf}

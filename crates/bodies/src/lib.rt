@@ -7,12 +7,12 @@ use basics::high;
 use basics::low;
 use basics::number;
 use controller::Outputs;
-use controller::Pen;
 use controller::Reading;
 use locator::Located;
 use multiplexer::Cycle;
 use multiplexer::Levelled;
 use multiplexer::Shown;
+use pen::Pen;
 
 pub fn read_answer(kind: u8, r: Reading) -> Answer
     ensures { λ a. ⌜ a ≡ readAnswerOf kind r ⌝ }

@@ -7,10 +7,10 @@ use Rattle.basics.proofs.Iterating.{iterate-keeps}
 use Rattle.raster.specs.Scan.{topOf, nextOf}
 use Rattle.raster.specs.declared.registers.Registers.{Registers}
 use Rattle.controller.specs.Chip.{arrivedOf, resetOf, stepOf, clockOf, strikeOf}
-use Rattle.controller.specs.Pen.{noPen, strikeAt, struckOf}
+use Rattle.pen.specs.Pen.{noPen, strikeAt, struckOf}
 use Rattle.controller.specs.Reads.{readOf}
 use Rattle.controller.specs.declared.chip.Controller.{Controller}
-use Rattle.controller.specs.declared.pen.Pen.{Pen}
+use Rattle.pen.specs.declared.pen.Pen.{Pen}
 use Rattle.controller.proofs.Reading.{after-read}
 
 -- what every character time keeps, a clock of any number keeps

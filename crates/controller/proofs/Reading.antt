@@ -2,7 +2,7 @@
 use mathlib.Core.Bool.{Bool}
 use Rattle.basics.proofs.Cases.{if-both}
 use Rattle.controller.specs.Chip.{withPen}
-use Rattle.controller.specs.Pen.{emptiedOf}
+use Rattle.pen.specs.Pen.{emptiedOf}
 use Rattle.controller.specs.Reads.{afterReadOf, registerReadOf, statusReadOf, readOf}
 use Rattle.controller.specs.declared.reads.Reading.{Reading}
 use Rattle.controller.specs.declared.chip.Controller.{Controller}

@@ -17,7 +17,8 @@ use Rattle.raster.specs.declared.registers.Registers.{Registers}
 use Rattle.raster.proofs.Widths.{top-within, next-within, arrive-within}
 use Rattle.facts.proofs.Addresses.{latch-lt}
 use Rattle.controller.specs.Writes.{keptOf, addressedOf, storedOf, writtenOf}
-use Rattle.controller.specs.Pen.{noPen, newestOf, struckOf, emptiedOf}
+use Rattle.pen.specs.Pen.{strikeAt, emptiedOf}
+use Rattle.pen.proofs.Pens.{none-latch, struck-newest, emptied-newest}
 use Rattle.controller.specs.Chip.{noSync, noRegisters, withPen, arrivedOf, freshOf, resetOf, writeOf, stepOf, clockOf, strikeOf}
 use Rattle.controller.specs.Reads.{readOf}
 use Rattle.controller.specs.Widths.{Within}
@@ -55,12 +56,12 @@ module _ (r : Registers) (v : ℕ) (f : RegistersWithin r) where
       if-both RegistersWithin rs _ _ (λ _. stored-within) (λ _. record { sixteen = f .sixteen; each = f .each; named = omega arith })
 
 arrived-within : (r : Registers) → RegistersWithin r → Within (arrivedOf r)
-unfolding arrivedOf noPen newestOf
+unfolding arrivedOf
 arrived-within r f = record {
   regs = f;
   scan = top-within r f 0 (omega arith);
   sync = arrive-within r f (topOf r 0) noSync (record { hsync = omega arith; vsync = omega arith });
-  latch = omega arith;
+  latch = omega (arith, none-latch);
 }
 
 pub fresh-within : Within freshOf
@@ -77,12 +78,11 @@ module _ (c : Controller) (f : Within c) where
   write-within rs v = record { regs = written-within (c .regs) v (f .regs) rs; scan = f .scan; sync = f .sync; latch = f .latch }
 
   pub strike-within : Within (strikeOf c)
-  unfolding strikeOf newestOf struckOf
-  strike-within = record { regs = f .regs; scan = f .scan; sync = f .sync; latch = latch-lt (c .regs) (c .scan) }
+  unfolding strikeOf
+  strike-within = record { regs = f .regs; scan = f .scan; sync = f .sync; latch = rw (struck-newest (c .pen) (strikeAt (c .regs) (c .scan))) (latch-lt (c .regs) (c .scan)) }
 
   emptied-within : Within (withPen (emptiedOf (c .pen)) c)
-  unfolding newestOf emptiedOf
-  emptied-within = record { regs = f .regs; scan = f .scan; sync = f .sync; latch = f .latch }
+  emptied-within = record { regs = f .regs; scan = f .scan; sync = f .sync; latch = rw (emptied-newest (c .pen)) (f .latch) }
 
   pub read-within : (rs : Bool) → Within (readOf c rs .controller)
   read-within rs = after-read Within c f emptied-within rs

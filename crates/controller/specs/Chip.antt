@@ -13,9 +13,9 @@ use Rattle.raster.specs.declared.scan.Scan.{Scan}
 use Rattle.raster.specs.declared.sync.Sync.{Sync}
 use Rattle.clocks.specs.declared.place.Place.{Place}
 use Rattle.clocks.specs.declared.place.Walk.{Walk}
-use Rattle.controller.specs.Pen.{noPen, strikeAt, struckOf}
+use Rattle.pen.specs.Pen.{noPen, strikeAt, struckOf}
 use Rattle.controller.specs.Writes.{writtenOf}
-use Rattle.controller.specs.declared.pen.Pen.{Pen}
+use Rattle.pen.specs.declared.pen.Pen.{Pen}
 use Rattle.controller.specs.declared.chip.Controller.{Controller}
 
 -- nothing shown by a delayed pin yet: both facts false

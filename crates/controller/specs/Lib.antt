@@ -1,5 +1,4 @@
 pub mod Writes
-pub mod Pen
 pub mod Chip
 pub mod Pins
 pub mod Reads

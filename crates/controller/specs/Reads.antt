@@ -6,7 +6,7 @@ use Rattle.basics.specs.Choice.{if_then_else_}
 use Rattle.basics.specs.Bits.{num, highOf, lowOf}
 use Rattle.raster.specs.Registers.{reg}
 use Rattle.controller.specs.Chip.{withPen}
-use Rattle.controller.specs.Pen.{emptiedOf, newestOf, unreadOf}
+use Rattle.pen.specs.Pen.{emptiedOf, newestOf, unreadOf}
 use Rattle.controller.specs.declared.chip.Controller.{Controller}
 use Rattle.controller.specs.declared.reads.Reading.{Reading}
 

@@ -1,7 +1,7 @@
 -- The widths of what the controller holds (document 01, "Controller registers" and "One character time").
 use Prim.Native.Nat.{_<_}
 use Rattle.raster.specs.Widths.{RegistersWithin, ScanWithin, SyncWithin}
-use Rattle.controller.specs.Pen.{newestOf}
+use Rattle.pen.specs.Pen.{newestOf}
 use Rattle.controller.specs.declared.chip.Controller.{Controller}
 
 -- registers, scan and syncs within theirs, and the pen's latch within fourteen bits

@@ -1,13 +1,13 @@
 // The controller: power-on, reset, writes, character times and pen strikes.
 ghost use mathlib.Core.Path.{_≡_};
 ghost use Rattle.controller.specs.Chip.{arrivedOf, freshOf, resetOf, writeOf, clockOf, strikeOf, placeOf, walkedOf};
-use crate::pen::Pen;
-use crate::pen::Strike;
 use crate::writes::written;
 use clocks::Place;
 use clocks::Walk;
 use facts::Facts;
 use facts::latch;
+use pen::Pen;
+use pen::Strike;
 use raster::Registers;
 use raster::Scan;
 use raster::Sync;

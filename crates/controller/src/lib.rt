@@ -1,13 +1,10 @@
 // The 6545-1 display controller: registers, scan, syncs, delayed pins and light pen.
 mod chip;
-mod pen;
 mod pins;
 mod reads;
 mod writes;
 
 pub use chip::Controller;
-pub use pen::Pen;
-pub use pen::Strike;
 pub use pins::Outputs;
 pub use reads::Reading;
 pub use writes::kept;

@@ -2,7 +2,7 @@
 ghost use mathlib.Core.Path.{_≡_};
 ghost use Rattle.basics.specs.Bits.{highOf, lowOf};
 ghost use Rattle.controller.specs.Chip.{withPen};
-ghost use Rattle.controller.specs.Pen.{emptiedOf, newestOf};
+ghost use Rattle.pen.specs.Pen.{emptiedOf, newestOf};
 ghost use Rattle.controller.specs.Reads.{blankOf, statusOf, valueOf, afterReadOf, registerReadOf, statusReadOf, readOf};
 use crate::chip::Controller;
 use basics::flag;

@@ -12,10 +12,10 @@ use Rattle.raster.specs.declared.scan.Scan.{Scan}
 use Rattle.facts.specs.Facts.{pictureOf, latchOf}
 use Rattle.facts.proofs.Addresses.{in-picture}
 use Rattle.controller.specs.Chip.{freshOf, resetOf, clockOf, withPen, strikeOf}
-use Rattle.controller.specs.Pen.{strikeAt, emptiedOf, holdsOf, newestOf}
+use Rattle.pen.specs.Pen.{strikeAt, emptiedOf, holdsOf, newestOf}
 use Rattle.controller.specs.declared.chip.Controller.{Controller}
 use Rattle.controller.proofs.Keeping.{clock-regs, clock-pen, strike-regs, strike-pen, reset-pen}
-use Rattle.controller.proofs.Pens.{none-holds, struck-holds, struck-newest, emptied-holds, emptied-newest}
+use Rattle.pen.proofs.Pens.{none-holds, struck-holds, struck-newest, emptied-holds, emptied-newest}
 use Rattle.controller.proofs.Reading.{after-read}
 use Rattle.frames.specs.Calls.{afterCalls, Wait, clocks, reads, afterWait, Act, waits, strikes, afterAct, afterActs}
 use Rattle.frames.specs.Places.{Region}

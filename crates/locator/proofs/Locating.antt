@@ -11,9 +11,9 @@ use Rattle.raster.specs.declared.registers.Registers.{Registers}
 use Rattle.raster.specs.declared.scan.Scan.{Scan}
 use Rattle.facts.specs.Facts.{pictureOf, latchOf}
 use Rattle.facts.proofs.Addresses.{latch-alike, in-picture}
-use Rattle.controller.specs.Pen.{holdsOf, newestOf}
+use Rattle.pen.specs.Pen.{holdsOf, newestOf}
 use Rattle.controller.specs.declared.chip.Controller.{Controller}
-use Rattle.controller.specs.declared.pen.Strike.{Strike}
+use Rattle.pen.specs.declared.pen.Strike.{Strike}
 use Rattle.locator.specs.Cells.{IsCell, cellAt, cellPlaceOf, cellLatchOf, fitsOf, fitOf}
 use Rattle.locator.specs.Locate.{namedOf, strikeFoundOf, locateOf}
 use Rattle.locator.specs.declared.answer.Located.the-variants.{Unstruck, Outside}

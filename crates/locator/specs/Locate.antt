@@ -2,8 +2,8 @@
 use Prim.Native.Nat.{ℕ}
 use Rattle.basics.specs.Choice.{if_then_else_}
 use Rattle.raster.specs.declared.registers.Registers.{Registers}
-use Rattle.controller.specs.Pen.{holdsOf, newestOf}
-use Rattle.controller.specs.declared.pen.Strike.{Strike}
+use Rattle.pen.specs.Pen.{holdsOf, newestOf}
+use Rattle.pen.specs.declared.pen.Strike.{Strike}
 use Rattle.controller.specs.declared.chip.Controller.{Controller}
 use Rattle.locator.specs.Cells.{cellAt, fitOf}
 use Rattle.locator.specs.declared.cells.Cell.{Cell}

@@ -6,7 +6,7 @@ use crate::cells::Cell;
 use crate::fit::Fit;
 use crate::fit::picture_fit;
 use controller::Controller;
-use controller::Strike;
+use pen::Strike;
 use raster::Registers;
 
 pub enum Located {

@@ -11,7 +11,7 @@ use Rattle.basics.specs.Iterate.{iterate}
 use Rattle.raster.specs.Scan.{lineEndOf, moveOf, movedOf, nextOf}
 use Rattle.facts.specs.Facts.{pictureOf, addressOf, maOf, latchOf}
 use Rattle.controller.specs.Chip.{arrivedOf, freshOf, resetOf, writeOf, stepOf, clockOf, strikeOf}
-use Rattle.controller.specs.Pen.{noPen, struckOf, emptiedOf, holdsOf, newestOf, unreadOf}
+use Rattle.pen.specs.Pen.{noPen, struckOf, emptiedOf, holdsOf, newestOf, unreadOf}
 use Rattle.controller.specs.Reads.{afterReadOf, registerReadOf, readOf}
 use Rattle.controller.specs.Writes.{addressedOf, storedOf, writtenOf}
 use Rattle.frames.specs.Calls.{afterCall, afterCalls, afterWait, afterAct, afterActs}

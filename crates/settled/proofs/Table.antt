@@ -12,7 +12,7 @@ use Rattle.raster.specs.Sync.{hsyncOf, vsyncStartsOf, vsyncWidthOf, vsyncOf, ar
 use Rattle.facts.specs.Facts.{pictureOf, addressOf, maOf, latchOf, blinkOf, cursorLineOf, cursorOf, factsOf}
 use Rattle.controller.specs.Chip.{arrivedOf, freshOf, resetOf, writeOf, stepOf, clockOf, strikeOf}
 use Rattle.controller.specs.Writes.{addressedOf, storedOf, writtenOf}
-use Rattle.controller.specs.Pen.{noPen, struckOf, holdsOf, newestOf}
+use Rattle.pen.specs.Pen.{noPen, struckOf, holdsOf, newestOf}
 use Rattle.controller.specs.Pins.{pinOf, outputsOf}
 use Rattle.frames.specs.Calls.{afterCall, afterCalls}
 use Rattle.frames.proofs.Frames.{frames}

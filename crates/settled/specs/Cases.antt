@@ -9,7 +9,7 @@ use lib.ListN.{getD}
 use Rattle.basics.specs.Choice.{if_then_else_}
 use Rattle.basics.specs.Bits.{num}
 use Rattle.controller.specs.Chip.{freshOf, resetOf, clockOf, strikeOf}
-use Rattle.controller.specs.Pen.{newestOf}
+use Rattle.pen.specs.Pen.{newestOf}
 use Rattle.controller.specs.Pins.{outputsOf}
 use Rattle.controller.specs.declared.chip.Controller.{Controller}
 use Rattle.frames.specs.Calls.{Call, write, afterCalls}

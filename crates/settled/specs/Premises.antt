@@ -5,7 +5,7 @@ use mathlib.Core.Bool.{true, false}
 use mathlib.Core.List.{List, [], _∷_}
 use Rattle.facts.specs.Facts.{pictureOf, latchOf}
 use Rattle.controller.specs.Chip.{freshOf, resetOf, writeOf}
-use Rattle.controller.specs.Pen.{unreadOf}
+use Rattle.pen.specs.Pen.{unreadOf}
 use Rattle.controller.specs.Writes.{keptOf}
 use Rattle.controller.specs.declared.chip.Controller.{Controller}
 use Rattle.frames.specs.Calls.{Call, afterCalls, clocks, reads, Act, waits, strikes, afterActs}

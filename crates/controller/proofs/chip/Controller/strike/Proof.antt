@@ -1,7 +1,7 @@
 use mathlib.Core.Path.{ap}
 use Rattle.controller.specs.Chip.{withPen, strikeOf}
 use Rattle.controller.specs.Pins.{outputsOf}
-use Rattle.controller.specs.declared.pen.Pen.{Pen}
+use Rattle.pen.specs.declared.pen.Pen.{Pen}
 use borrow.Author.Needs.{needs}
 use Rattle.controller.proofs.chip.Controller.strike.Statement.{statement}
 use Rattle.controller.proofs.chip.Controller.strike.Tie as tie

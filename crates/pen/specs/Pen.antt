@@ -1,11 +1,11 @@
--- The light pen (document 01, "Controller registers" and "One character time"). All that others ask of a pen is asked by these
--- definitions: nothing outside this crate names its fields.
+-- The light pen (document 01, "Controller registers" and "One character time"). All that is asked of a pen is asked by these
+-- definitions: no other crate names its fields.
 use mathlib.Core.Bool.{Bool, true, false}
 use Rattle.raster.specs.declared.registers.Registers.{Registers}
 use Rattle.raster.specs.declared.scan.Scan.{Scan}
 use Rattle.facts.specs.Facts.{pictureOf, latchOf}
-use Rattle.controller.specs.declared.pen.Pen.{Pen}
-use Rattle.controller.specs.declared.pen.Strike.{Strike}
+use Rattle.pen.specs.declared.pen.Pen.{Pen}
+use Rattle.pen.specs.declared.pen.Strike.{Strike}
 
 -- no strike yet
 unfoldable pub noPen : Pen

@@ -1,6 +1,6 @@
 // The light pen: the last strike since the reset, and whether its latch is still to be read.
 ghost use mathlib.Core.Path.{_≡_};
-ghost use Rattle.controller.specs.Pen.{noPen, struckOf, emptiedOf, holdsOf, newestOf, unreadOf};
+ghost use Rattle.pen.specs.Pen.{noPen, struckOf, emptiedOf, holdsOf, newestOf, unreadOf};
 
 // What a strike latched, and whether it fell in the picture.
 #[repr(C)]
@@ -21,7 +21,7 @@ pub struct Pen {
 
 impl Pen {
     // A pen that has not struck.
-    pub(crate) fn none() -> Pen
+    pub fn none() -> Pen
         ensures { λ p. ⌜ p ≡ noPen ⌝ }
     {
         let none = Strike {
@@ -36,7 +36,7 @@ impl Pen {
     }
 
     // The pen after a strike.
-    pub(crate) fn struck(self, strike: Strike) -> Pen
+    pub fn struck(self, strike: Strike) -> Pen
         ensures { λ p. ⌜ p ≡ struckOf self strike ⌝ }
     {
         let mut p = self;
@@ -47,7 +47,7 @@ impl Pen {
     }
 
     // The pen after its latch was read.
-    pub(crate) fn emptied(self) -> Pen
+    pub fn emptied(self) -> Pen
         ensures { λ p. ⌜ p ≡ emptiedOf self ⌝ }
     {
         let mut p = self;

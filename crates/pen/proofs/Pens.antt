@@ -1,13 +1,17 @@
 -- What a strike and a read of its latch do to what is asked of a pen. Assumes nothing.
 use mathlib.Core.Path.{_≡_, refl}
 use mathlib.Core.Bool.{true, false}
-use Rattle.controller.specs.Pen.{noPen, struckOf, emptiedOf, holdsOf, newestOf, unreadOf}
-use Rattle.controller.specs.declared.pen.Pen.{Pen}
-use Rattle.controller.specs.declared.pen.Strike.{Strike}
+use Rattle.pen.specs.Pen.{noPen, struckOf, emptiedOf, holdsOf, newestOf}
+use Rattle.pen.specs.declared.pen.Pen.{Pen}
+use Rattle.pen.specs.declared.pen.Strike.{Strike}
 
 pub none-holds : holdsOf noPen ≡ false
 unfolding holdsOf noPen
 none-holds = refl
+
+pub none-latch : newestOf noPen .latch ≡ 0
+unfolding newestOf noPen
+none-latch = refl
 
 module _ (p : Pen) where
   pub struck-holds : (s : Strike) → holdsOf (struckOf p s) ≡ true
