@@ -11,8 +11,8 @@ use Rattle.controller.specs.Chip.{freshOf, resetOf, writeOf, clockOf, strikeOf}
 use Rattle.controller.specs.Pins.{outputsOf}
 use Rattle.controller.specs.Reads.{readOf}
 use Rattle.frames.specs.Calls.{Call, afterCalls}
-use Rattle.frames.specs.Widths.{Fits}
-use Rattle.frames.proofs.Widths.{reached-fits}
+use Rattle.controller.specs.Widths.{Within}
+use Rattle.frames.proofs.Reached.{reached-within}
 use Rattle.locator.specs.Locate.{locateOf}
 use Rattle.demand.specs.Demand.{Demand3Reached}
 use Rattle.demand.proofs.Demand.{demand3-reached}
@@ -131,8 +131,8 @@ controller-reset κs a r s p = p
 pub power-on : States controller·fresh.Post (λ κs a r s. r ≡ freshOf)
 power-on κs a r s p = p
 
-pub widths-kept : (l : List Call) → Fits (afterCalls l freshOf)
-widths-kept = reached-fits
+pub widths-kept : (l : List Call) → Within (afterCalls l freshOf)
+widths-kept = reached-within
 
 pub bus-cycle : States multiplexer·bus.Post (λ κs a r s. r ≡ busOf (a .0) (a .1 .0) (a .1 .1 .0))
 bus-cycle κs a r s p = p
