@@ -1,7 +1,7 @@
 """The documents: what they quote is there, their paths and links lead somewhere, and their counts are right."""
 import re
 
-from checks import markdown, promises, rules
+from checks import markdown, places, promises, rules
 from checks.things import Things
 
 PAGES = ("README.md", "docs/PROMISES.md", "docs/RULES.md", "docs/DECISIONS.md", "docs/EVIDENCE.md", "docs/CHECK-TIMES.md")
@@ -110,4 +110,5 @@ def check(top):
     wrong += promises.check(things)
     wrong += check_times(things)
     wrong += check_tools(things)
+    wrong += places.check(things)
     return list(dict.fromkeys(wrong))

@@ -49,6 +49,7 @@ class Function:
     clauses: list
     clause_names: list
     body: list
+    stated: list  # the clauses' own texts
 
 
 @dataclasses.dataclass
@@ -100,8 +101,8 @@ def expects_clause(tokens):
     return any(token.kind == "word" and token.text in CLAUSES for token in last)
 
 
-def tokens_of(source):
-    """The tokens of a source without its comments; `ghost use` lines are left out."""
+def tokens_of(source, ghosts=None):
+    """The tokens of a source without its comments; `ghost use` lines are left out, and collected where a list is given."""
     tokens, place = [], 0
     while place < len(source):
         if source.startswith("/*", place):
@@ -121,9 +122,11 @@ def tokens_of(source):
             continue
         tokens.append(Token(kind, match.group(), line_at(source, match.start())))
         if [token.text for token in tokens[-2:]] == ["ghost", "use"]:
-            place = source.find(";", place) + 1
+            begun, place = place, source.find(";", place) + 1
             if not place:
                 raise Unreadable(f"line {tokens[-1].line}: a `ghost use` that does not end")
+            if ghosts is not None:
+                ghosts.append((tokens[-1].line, "use " + " ".join(source[begun : place - 1].split())))
             del tokens[-2:]
     return tokens
 
@@ -188,7 +191,8 @@ class Reader:
     """Walks over a source's tokens, and collects its functions and the other things that it declares."""
 
     def __init__(self, source, modules=()):
-        self.tokens = tokens_of(source)
+        self.ghosts = []  # the definitions' names that `ghost use` brings: the line, and its text
+        self.tokens = tokens_of(source, self.ghosts)
         self.functions, self.declared, self.strange = [], [], []
         self.handed = []  # what `pub use` hands on: the line, and the words of its path
         self.items(0, len(self.tokens), modules, "")
@@ -296,12 +300,12 @@ class Reader:
         past = past_group(self.tokens, place)
         parameters = [parameter_of(part) for part in parts_of(self.tokens[place + 1 : past - 1])]
         place, answer = self.answer(past)
-        place, clauses, names = self.clauses(place)
+        place, clauses, names, stated = self.clauses(place)
         if self.text(place) != "{":
             raise Unreadable(f"line {line}: fn {name} has no body where one is expected")
         end = past_group(self.tokens, place)
         body = self.tokens[place:end]
-        self.functions.append(Function(name, owner, modules, line, public, parameters, answer, clauses, names, body))
+        self.functions.append(Function(name, owner, modules, line, public, parameters, answer, clauses, names, body, stated))
         return end
 
     def answer(self, place):
@@ -314,8 +318,8 @@ class Reader:
         return place, " ".join(token.text for token in self.tokens[start:place])
 
     def clauses(self, place):
-        """The number of the token past a function's clauses, the words that they begin with, and the names that they have."""
-        words, names = [], []
+        """The number of the token past a function's clauses, the words that they begin with, the names that they have, and their texts."""
+        words, names, stated = [], [], []
         while self.text(place) in CLAUSES:
             words.append(self.text(place))
             place += 1
@@ -324,8 +328,9 @@ class Reader:
                 place += 1
             if self.text(place) == "" or self.tokens[place].kind != "clause":
                 raise Unreadable(f"line {self.tokens[place - 1].line}: {words[-1]} without its braces")
+            stated.append(self.text(place))
             place += 1
-        return place, words, names
+        return place, words, names, stated
 
 
 def modules_of(path, source_folder):

@@ -15,6 +15,7 @@ FILES = {
     "crates.txt": "alpha:\npromises: alpha\n",
     "tools/check-docs": "",
     "crates/alpha/src/lib.rt": """// The word ghostly stands in a comment only, as does fn ghostly().
+ghost use Rattle.alpha.specs.One.{oneOf};
 mod width;
 
 const LIMIT: u8 = 9;
@@ -26,7 +27,9 @@ pub fn one(x: u8) -> u8
     x
 }
 """,
-    "crates/alpha/src/width.rt": """pub enum Width {
+    "crates/alpha/src/width.rt": """ghost use Rattle.alpha.specs.One.{countedOf};
+
+pub enum Width {
     Five,
 }
 

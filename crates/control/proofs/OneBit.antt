@@ -7,7 +7,8 @@ use native.Mathlib.Nat.{mod-lt, one-mul, mod-eq-of-lt, div-le-self}
 use lib.Pow.{pow-pos, pow-mono, pow-add, shr-lt, shr-shr, high, low, field, mod-mod-pow}
 use lib.Arith.{digits-lt}
 use Rattle.basics.proofs.Tests.{lt-or-ge}
-use Rattle.control.specs.Write.{Weight, putBit}
+use Rattle.control.specs.Write.{putBit}
+use Rattle.control.specs.private.Weight.{Weight}
 
 -- ---- what the code of `weight` and `put_bit` needs
 

@@ -1,17 +1,11 @@
 -- Writes of control bits (document 01, "The multiplexer", and the control write flag of kind 6 in "Records and what comes back").
-use Prim.Native.Nat.{ℕ, _+_, _-_, _*_, _/_, _%_, _^_, _≤_}
+use Prim.Native.Nat.{ℕ, _+_, _-_, _*_, _/_, _%_, _^_}
 use mathlib.Core.Bool.{Bool, not, _&&_}
 use mathlib.Core.Path.{_≡_}
 use lib.Dec.{eqb, leb, ltb}
 use Rattle.basics.specs.Bits.{bit}
 use Rattle.basics.specs.Choice.{if_then_else_}
 use Rattle.control.specs.declared.bits.Control.{Control}
-
--- w is what bit k is worth
-pub record Weight (k w : ℕ) : Type 0 where
-  pub is : w ≡ 2 ^ k
-  pub least : 1 ≤ w
-  pub most : w ≤ 32768
 
 -- a number with bit k put to v: the bits above it, then v, then the bits below it
 unfoldable pub putBit : ℕ → ℕ → ℕ → ℕ

@@ -2,7 +2,8 @@
 use crate::bits::Control;
 ghost use mathlib.Core.Path.{_≡_};
 ghost use Prim.Native.Nat.{_<_};
-ghost use Rattle.control.specs.Write.{Weight, putBit, isControlOf, controlWriteOf, writtenOf, afterOf};
+ghost use Rattle.control.specs.private.Weight.{Weight};
+ghost use Rattle.control.specs.Write.{putBit, isControlOf, controlWriteOf, writtenOf, afterOf};
 
 // 2 to the k: what bit k is worth.
 fn weight(k: u16) -> u32

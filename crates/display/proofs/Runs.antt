@@ -9,7 +9,7 @@ use Rattle.basics.proofs.Iterating.{iterate-run, iterate-add}
 use Rattle.display.specs.declared.counter.Display.{Display}
 use Rattle.display.specs.declared.modes.Mode.{Mode}
 use Rattle.display.specs.Counter.{withB, fetchOf, fetchesOf}
-use Rattle.display.specs.Run.{Run}
+use Rattle.display.specs.private.Run.{Run}
 
 module _ (m : Mode) (d : Display) where
   one-more : (k : ℕ) → d .b % 16 + k < 15 → fetchOf m (withB (d .b + k) d) ≡ withB (d .b + suc k) d

@@ -1,4 +1,4 @@
 pub mod Modes
 pub mod Counter
-pub mod Run
+pub mod private
 pub mod Edges

@@ -3,7 +3,7 @@ use crate::modes::Mode;
 ghost use mathlib.Core.Path.{_≡_};
 ghost use Prim.Native.Nat.{_+_, _%_, _≤_};
 ghost use Rattle.display.specs.Counter.{startOf, withB, advanced, countY, flipB4, countX, fetchOf, fetchesOf};
-ghost use Rattle.display.specs.Run.{Run};
+ghost use Rattle.display.specs.private.Run.{Run};
 
 // The display address B, and the dividers X (between B3 and B4) and Y (between B4 and B5).
 #[repr(C)]

@@ -1,6 +1,5 @@
 -- Memory cells (document 01, "The multiplexer", the paragraph on cells).
-use Prim.Native.Nat.{ℕ, _+_, _*_, _/_, _%_, _≤_}
-use mathlib.Core.Path.{_≡_}
+use Prim.Native.Nat.{ℕ, _+_, _*_, _/_, _%_}
 use Rattle.basics.specs.Bits.{num}
 use Rattle.basics.specs.Choice.{if_then_else_}
 use Rattle.control.specs.declared.bits.Control.{Control}
@@ -10,12 +9,6 @@ use Rattle.multiplexer.specs.declared.cells.Cell.{Cell}
 -- The memory size by M1 M0, as the rows that one bank has; its columns are as many. 00 is 64, 01 is 128, both others are 256.
 unfoldable pub sideOf : Control → ℕ
 sideOf c = if m1Of c then 256 else if m0Of c then 128 else 64
-
--- what the code tells of a side: which it is, and that it can be divided by and fits a cell's bytes
-pub record Side (c : Control) (r : ℕ) : Type 0 where
-  pub is : r ≡ sideOf c
-  pub least : 1 ≤ r
-  pub most : r ≤ 256
 
 -- The cell of an address in banks of that side: the row is the lowest digit to the base of the side, the column the next, and the bank
 -- the lowest bit of what is left. So side 64 has its row in A5..A0, its column in A11..A6 and its bank in A12; side 128 has A6..A0,

@@ -3,3 +3,4 @@ pub mod Bus
 pub mod Edge
 pub mod Refresh
 pub mod Chip
+pub mod private

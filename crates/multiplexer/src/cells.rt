@@ -1,7 +1,8 @@
 // Where an address lies in the memory chips.
 use control::Control;
 ghost use mathlib.Core.Path.{_≡_};
-ghost use Rattle.multiplexer.specs.Cells.{Side, sideOf, noCell, cellOf, routedOf};
+ghost use Rattle.multiplexer.specs.private.Side.{Side};
+ghost use Rattle.multiplexer.specs.Cells.{sideOf, noCell, cellOf, routedOf};
 
 // A place in the memory chips.
 pub struct Cell {
