@@ -1,19 +1,23 @@
 """Public functions and their laws: each states its whole answer, has no `requires`, and has the one law that its signature asks for.
 
 The laws stand in crates/answers/proofs/OneAnswer.antt, over the real contracts (`Post`, which Rattle makes of the source's clauses); the
-forms that they take are defined in crates/answers/specs/OneAnswer.antt.
+form that they take is defined in crates/answers/specs/OneAnswer.antt, and in Lent.antt beside it where a struct is lent.
 """
 import dataclasses
 import re
 
 from checks import antt, crates, fixed, source
+from checks.laws import BINDERS, NoForm, claim_of, fits, law_type, lends_struct, proof_of
 
 LAWS = "crates/answers/proofs/OneAnswer.antt"
 FORMS = "crates/answers/specs/OneAnswer.antt"
-FORMS_MODULE = "Rattle.answers.specs.OneAnswer"
-ALL_FORMS = ("OneAnswer", "OneOutcome", "OnePart")
-# What the laws' types are made of besides the forms, by the names that they have there.
-PARTS = {"now": ("denote.Ref", "now"), "_∷_": ("mathlib.Core.List", "_∷_"), "[]": ("mathlib.Core.List", "[]")}
+LENT = "crates/answers/specs/Lent.antt"
+MODULE = "Rattle.answers.specs."
+# What the laws' types are made of, by the names that they have there.
+PARTS = {
+    "OneAnswer": (MODULE + "OneAnswer", "OneAnswer"), "_beside_": (MODULE + "OneAnswer", "_beside_"),
+    "OneLent": (MODULE + "Lent", "OneLent"), "now": ("denote.Ref", "now"),
+}
 
 
 @dataclasses.dataclass(frozen=True)
@@ -25,50 +29,8 @@ class Wanted:
     alias: str
     law: str
     type: str
-
-
-class NoForm(Exception):
-    """A signature for which there is no form of law; it says why."""
-
-
-def contents(lent):
-    """How a law reads what the lent parameters hold afterwards, by their numbers: a list with an entry for each."""
-    return "(λ κs s. " + "".join(f"now (s{' .1' * index} .0) ∷ " for index in lent) + "[])"
-
-
-def is_lent(kind):
-    """Whether a parameter's type lends something."""
-    return "&" in kind.split(" ") or "&&" in kind.split(" ")
-
-
-def is_written(kind):
-    """Whether a lent parameter may be written: `&mut`, with a lifetime or without."""
-    words = [word for word in kind.split(" ") if not word.startswith("'")]
-    return words[:2] == ["&", "mut"]
-
-
-def lent_of(function):
-    """The numbers of the lent parameters, the written ones first."""
-    lent = []
-    for index, (name, kind) in enumerate(function.parameters):
-        if "* mut" in kind or "* const" in kind:
-            raise NoForm(f"its parameter {name} is a raw pointer, and no law speaks of that")
-        if is_lent(kind):
-            if not kind.startswith("& ") or kind.count("&") > 1:
-                raise NoForm(f"its parameter {name} lends something within another type, and no law speaks of that")
-            lent.append((not is_written(kind), index))
-    return [index for _, index in sorted(lent)]
-
-
-def law_type(function, alias):
-    """The whole type of a function's law."""
-    lent = lent_of(function)
-    if "&" in function.answer:
-        words = [word for word in function.answer.split(" ") if not word.startswith("'")]
-        if words[:2] != ["&", "["] or function.answer.count("&") > 1 or len(lent) != 1:
-            raise NoForm(f"it answers `{function.answer}` and lends {len(lent)}; there is a law only for a part of one slice, lent alone")
-        return f"OnePart {alias}.Post (λ κs r. now r) (λ κs r. r .ptr) {contents(lent)}"
-    return f"OneOutcome {alias}.Post {contents(lent)}" if lent else f"OneAnswer {alias}.Post"
+    proof: str = ""  # where it is known
+    claim: str = ""  # where the type has a hole for it
 
 
 def declaring_modules(readers, owner, function):
@@ -83,11 +45,11 @@ def declaring_modules(readers, owner, function):
 
 
 def reads_module(crate, readers, function):
-    """The module in which Rattle has a function's contract."""
+    """The module in which Rattle has a function's contract, read plainly where that can be."""
     words = ()
     if function.owner:
         words = declaring_modules(readers, function.owner, function) + (function.owner,)
-    return ".".join((f"Rattle.{crate}", "proofs") + words + (function.name, "Reads"))
+    return ".".join((f"Rattle.{crate}", "proofs") + words + (function.name,) + (() if lends_struct(function) else ("Reads",)))
 
 
 def aliases_of(crate, functions):
@@ -149,7 +111,8 @@ def wanted_of(top, crate):
         wrong += [f"{place} is public and {why}" for why in faults_of(function)]
         try:
             module = reads_module(crate, readers.values(), function)
-            wanted.append(Wanted(place, module, alias, alias.replace("·", "-"), law_type(function, alias)))
+            kind, claim = law_type(function, alias), claim_of(function) if lends_struct(function) else ""
+            wanted.append(Wanted(place, module, alias, alias.replace("·", "-"), kind, proof_of(function), claim))
         except NoForm as why:
             wrong.append(f"{place}: {why}")
     return wanted, wrong
@@ -167,8 +130,7 @@ def faults_of(function):
 
 def check_uses(uses, wanted):
     """Yields what is wrong with the `use` lines of the laws: a needed name that comes from elsewhere, twice or not at all."""
-    needed = {form: (FORMS_MODULE, form) for form in ALL_FORMS} | PARTS
-    needed.update({law.alias: (law.module, "") for law in wanted})
+    needed = PARTS | {law.alias: (law.module, "") for law in wanted}
     by_module = {law.module: law.alias for law in wanted}
     heads = {use.module.split(".")[0] for use in uses}
     for name in antt.twice([use.name for use in uses]):
@@ -184,10 +146,15 @@ def check_uses(uses, wanted):
         elif not use.item and use.name != by_module[use.module]:
             yield f"{where}: {use.module} has to be brought in as {by_module[use.module]}"
     brought = {use.name for use in uses}
-    words = {word for law in wanted for word in re.findall(r"\w+|∷|\[\]", law.type)}
-    for name in [*ALL_FORMS, *PARTS]:
-        if name.strip("_") in words and name not in brought:
+    for name in needed_parts(wanted):
+        if name not in brought:
             yield f"{LAWS}: no `use` line brings {name} from {needed[name][0]}"
+
+
+def needed_parts(wanted):
+    """The names that the wanted laws' types are made of."""
+    words = {word for law in wanted for word in re.findall(r"\w+", law.type)}
+    return [name for name in PARTS if name.strip("_") in words]
 
 
 def check_laws(stated, wanted, brought):
@@ -201,8 +168,10 @@ def check_laws(stated, wanted, brought):
     for law in stated:
         if law.name not in by_name:
             yield f"{LAWS}:{law.line}: {law.name} is the law of no public function"
-        elif law.type != by_name[law.name].type:
+        elif not fits(law.type, by_name[law.name].type):
             yield f"{LAWS}:{law.line}: {law.name} has to be of the type `{by_name[law.name].type}`, and is of the type `{law.type}`"
+        elif by_name[law.name].proof and (law.binders, law.body) != (BINDERS, by_name[law.name].proof):
+            yield f"{LAWS}:{law.line}: {law.name} is shown by `{by_name[law.name].proof}`, which tools/check-contracts --write writes"
         if law.name in brought:
             yield f"{LAWS}:{law.line}: {law.name} is also the name of what a `use` line brings"
     for law in wanted:
@@ -229,20 +198,34 @@ def check_programs(top):
                     yield f"{where}: {crate} decides nothing, so it is held to its words: {fault}"
 
 
+def all_wanted(top):
+    """The laws that all public functions need, and what is wrong with those functions."""
+    wanted, wrong = [], []
+    for crate in crates.libraries(top):
+        laws, faults = wanted_of(top, crate)
+        wanted += laws
+        wrong += faults
+    return wanted, wrong
+
+
+def check_forms(top, wanted):
+    """Yields what is wrong with the files that define the form of the laws; the one for lent structs is there if one is lent."""
+    due = {FORMS: fixed.FORMS}
+    if (top / LENT).is_file() or "OneLent" in needed_parts(wanted):
+        due[LENT] = fixed.LENT
+    for path, words in due.items():
+        fault = fixed.definitions_fault((top / path).read_text(), words) if (top / path).is_file() else "there is no such file"
+        if fault:
+            yield f"{path}: {fault}"
+
+
 def check(top):
     """What is wrong, line by line, and how many laws there are."""
     wrong = list(crates.check(top))
     if wrong:
         return wrong, 0
-    if not (top / FORMS).is_file():
-        return [f"there is no {FORMS}"], 0
-    fault = fixed.definitions_fault((top / FORMS).read_text(), fixed.FORMS)
-    wrong += [f"{FORMS}: {fault}"] if fault else []
-    wanted = []
-    for crate in crates.libraries(top):
-        laws, faults = wanted_of(top, crate)
-        wanted += laws
-        wrong += faults
+    wanted, wrong = all_wanted(top)
+    wrong += check_forms(top, wanted)
     try:
         uses, stated = antt.strict_file((top / LAWS).read_text())
     except antt.Unreadable as why:

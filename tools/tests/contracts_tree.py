@@ -31,6 +31,7 @@ fn helper(x: u8) -> [u8; 2]
 
 pub fn put(dst: &mut [u8], at: usize, src: &[u8]) -> bool
     ensures said { λ r. ⌜ r ≡ true ⌝ }
+    ensures held { λ r. ⌜ now (dst .exit) ≡ now (dst .entry) ⌝ }
     ensures kept { λ r. ⌜ now (src .exit) ≡ now (src .entry) ⌝ }
 {
     true
@@ -64,31 +65,31 @@ impl Width {
     "crates/answers/src/lib.rt": "// No code.\n",
     contracts.FORMS: "-- The \"forms\".\n" + fixed.FORMS,
     LAWS: """-- One answer.
-use mathlib.Core.List.{[], _∷_}
 use denote.Ref.{now}
-use Rattle.answers.specs.OneAnswer.{OneAnswer, OneOutcome, OnePart}
-use Rattle.basics.proofs.OneAnswer.{one-answer}
+use Rattle.answers.specs.OneAnswer.{OneAnswer, _beside_}
+use Rattle.basics.proofs.Alike.{one-answer}
+use Rattle.answers.proofs.Alike.{_and_}
 use Rattle.alpha.proofs.one.Reads as alpha·one
 use Rattle.alpha.proofs.put.Reads as alpha·put
 use Rattle.alpha.proofs.rest.Reads as alpha·rest
 use Rattle.alpha.proofs.two_of.Reads as alpha·two-of
 use Rattle.alpha.proofs.width.Width.counted.Reads as alpha·counted
 
-pub alpha-one : OneAnswer alpha·one.Post
+pub alpha-one : OneAnswer alpha·one.Post (λ κs r s. r)
 alpha-one κs a x y s t p q = one-answer p q
 
-pub alpha-put : OneOutcome alpha·put.Post
-  (λ κs s. now (s .0) ∷ now (s .1 .1 .0) ∷ [])
+pub alpha-put : OneAnswer alpha·put.Post
+  (λ κs r s. r beside now (s .0) beside now (s .1 .1 .0))
 alpha-put κs a x y s t p q =
-  (one-answer (p .0) (q .0), one-answer (p .1 .0) (q .1 .0), one-answer (p .1 .1) (q .1 .1))
+  one-answer (p .0) (q .0) and one-answer (p .1 .0) (q .1 .0) and one-answer (p .1 .1) (q .1 .1)
 
-pub alpha-rest : OnePart alpha·rest.Post (λ κs r. now r) (λ κs r. r .ptr) (λ κs s. now (s .0) ∷ [])
-alpha-rest κs a x y s t p q = (one-answer (p .0) (q .0), one-answer (p .1 .0) (q .1 .0), one-answer (p .1 .1) (q .1 .1))
+pub alpha-rest : OneAnswer alpha·rest.Post (λ κs r s. now r beside r .ptr beside now (s .0))
+alpha-rest κs a x y s t p q = (by hand)
 
-pub alpha-two-of : OneAnswer alpha·two-of.Post
+pub alpha-two-of : OneAnswer alpha·two-of.Post (λ κs r s. r)
 alpha-two-of κs a x y s t p q = one-answer p q
 
-pub alpha-counted : OneAnswer alpha·counted.Post
+pub alpha-counted : OneAnswer alpha·counted.Post (λ κs r s. r)
 alpha-counted κs a x y s t p q = one-answer p q
 """,
     "crates/listing/src/main.rt": "// if there is an input\n" + fixed.LISTING,

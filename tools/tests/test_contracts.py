@@ -2,6 +2,8 @@
 from checks import contracts, fixed
 from tests.contracts_tree import LIB, LAWS, FILES, ContractsTest
 
+ONE = "OneAnswer alpha·one.Post (λ κs r s. r)\n"
+
 
 class Right(ContractsTest):
     """What is right is taken."""
@@ -22,29 +24,32 @@ class LawTypes(ContractsTest):
     """A law is of the very type that the signature asks for."""
 
     def test_a_type_that_goes_on(self):
-        self.assertLaw("OneAnswer alpha·one.Post\n", "OneAnswer alpha·one.Post → OneAnswer alpha·one.Post\n", "alpha-one has to be of the type")
+        self.assertLaw(ONE, f"{ONE[:-1]} → OneAnswer alpha·one.Post (λ κs r s. r)\n", "alpha-one has to be of the type")
 
     def test_a_type_that_goes_on_in_the_next_line(self):
-        self.assertLaw("OneAnswer alpha·one.Post\n", "OneAnswer alpha·one.Post\n  → Unit\n", "alpha-one has to be of the type")
+        self.assertLaw(ONE, f"{ONE}  → Unit\n", "alpha-one has to be of the type")
 
     def test_a_premise_before_it(self):
         self.assertLaw("pub alpha-one : OneAnswer", "pub alpha-one : ⊥ → OneAnswer", "alpha-one has to be of the type")
 
     def test_one_buffer_named_twice(self):
-        self.assertLaw("now (s .0) ∷ now (s .1 .1 .0)", "now (s .0) ∷ now (s .0)", "alpha-put has to be of the type")
+        self.assertLaw("now (s .0) beside now (s .1 .1 .0)", "now (s .0) beside now (s .0)", "alpha-put has to be of the type")
 
     def test_the_buffers_the_other_way_round(self):
-        self.assertLaw("now (s .0) ∷ now (s .1 .1 .0)", "now (s .1 .1 .0) ∷ now (s .0)", "alpha-put has to be of the type")
+        self.assertLaw("now (s .0) beside now (s .1 .1 .0)", "now (s .1 .1 .0) beside now (s .0)", "alpha-put has to be of the type")
 
     def test_a_law_over_another_function(self):
-        self.assertLaw("OneAnswer alpha·one.Post\n", "OneAnswer alpha·counted.Post\n", "alpha-one has to be of the type")
+        self.assertLaw(ONE, ONE.replace("·one", "·counted"), "alpha-one has to be of the type")
 
     def test_one_answer_where_a_buffer_is_lent(self):
-        self.assertLaw("now (s .0) ∷ now (s .1 .1 .0) ∷ []", "now (s .0) ∷ []", "alpha-put has to be of the type")
+        self.assertLaw(" beside now (s .0) beside now (s .1 .1 .0)", "", "alpha-put has to be of the type")
+
+    def test_another_thing_seen(self):
+        self.assertLaw(ONE, ONE.replace("s. r)", "s. 0)"), "alpha-one has to be of the type")
 
     def test_a_written_buffer_comes_first(self):
         self.edit(LIB, "dst: &mut [u8], at: usize, src: &[u8]", "src: &[u8], at: usize, dst: &mut [u8]")
-        self.assertWrong("(λ κs s. now (s .1 .1 .0) ∷ now (s .0) ∷ [])`")
+        self.assertWrong("(λ κs r s. r beside now (s .1 .1 .0) beside now (s .0))`")
 
     def test_self_counts_as_a_parameter(self):
         self.files["crates/alpha/src/width.rt"] += (
@@ -52,20 +57,19 @@ class LawTypes(ContractsTest):
         )
         self.edit(LAWS, "use Rattle.alpha.proofs.one", "use Rattle.alpha.proofs.width.Width.both.Reads as alpha·both\nuse Rattle.alpha.proofs.one")
         self.files[LAWS] += (
-            "\npub alpha-both : OneOutcome alpha·both.Post (λ κs s. now (s .1 .0) ∷ now (s .1 .1 .0) ∷ [])\nalpha-both κs a x y s t p q = p\n"
+            "\npub alpha-both : OneAnswer alpha·both.Post (λ κs r s. r beside now (s .1 .0) beside now (s .1 .1 .0))\nalpha-both κs a x y s t p q = p\n"
         )
         self.assertRight()
 
     def test_a_form_that_is_not_there(self):
-        self.files[contracts.FORMS] = self.files[contracts.FORMS].partition("abbrev pub OnePart")[0]
-        self.assertWrong("it has to say `abbrev pub OnePart : ")
+        self.files[contracts.FORMS] = self.files[contracts.FORMS].partition("infixr")[0]
+        self.assertWrong("it has to say `infixr 20 _beside_`")
 
     def test_a_form_that_says_less(self):
         for form, due, less in (
-            ("OneAnswer", "P κs a y t → x ≡ y", "P κs a y t → x ≡ x"),
-            ("OneOutcome", "(x ≡ y) × (lent κs s ≡ lent κs t)", "(x ≡ x) × (lent κs s ≡ lent κs s)"),
-            ("OneOutcome", "(x ≡ y) × (lent κs s ≡ lent κs t)", "x ≡ y"),
-            ("OnePart", "(place κs x ≡ place κs y) × ", ""),
+            ("OneAnswer", "seen κs x s ≡ seen κs y t", "seen κs x s ≡ seen κs x s"),
+            ("OneAnswer", "P κs a x s → P κs a y t →", "P κs a x s → P κs a x s →"),
+            ("x beside", "x beside y = (x, y)", "x beside y = (x, x)"),
         ):
             with self.subTest(less):
                 self.files[contracts.FORMS] = fixed.FORMS
@@ -81,7 +85,7 @@ class LawTypes(ContractsTest):
         self.assertWrong("it says `ruleset more` besides")
 
     def test_forms_behind_a_comment(self):
-        self.edit(contracts.FORMS, "P κs a y t → x ≡ y\n", "P κs a y t → x ≡ y -- here\n")
+        self.edit(contracts.FORMS, "seen κs y t\n", "seen κs y t -- here\n")
         self.assertWrong("a comment here stands on a line of its own")
 
     def test_three_buffers(self):
@@ -90,14 +94,20 @@ class LawTypes(ContractsTest):
             "has no law alpha-three",
         )
 
-    def test_another_list(self):
-        self.assertLaw("mathlib.Core.List.{[], _∷_}", "mathlib.Core.Other.{[], _∷_}", "_∷_ has to stand for mathlib.Core.List._∷_")
+    def test_another_pair(self):
+        self.assertLaw("{OneAnswer, _beside_}", "{OneAnswer}\nuse alpha.Other.{_beside_}", "_beside_ has to stand for")
+
+    def test_a_proof_of_another_form(self):
+        self.assertLaw("alpha-one κs a x y s t p q = one-answer p q", "alpha-one κs a x y s t p q = one-answer q p", "is shown by `one-answer p q`")
+
+    def test_nothing_to_be_seen(self):
+        self.assertSource("pub fn idle(x: u8)\n    ensures { λ r. ⌜ r ≡ r ⌝ }\n{\n}\n", "nothing is seen of it")
 
     def test_a_lent_thing_in_another(self):
         self.assertSource("pub fn pair(a: (&mut [u8], u8))\n    ensures { λ r. ⌜ r ≡ r ⌝ }\n{\n}\n", "lends something within another type")
 
     def test_an_answer_that_may_be_written(self):
-        self.assertSource("pub fn part(a: &mut [u8]) -> &mut [u8]\n    ensures { λ r. ⌜ r ≡ r ⌝ }\n{\n    a\n}\n", "a law only for a part of one slice")
+        self.assertSource("pub fn part(a: &mut [u8]) -> &mut [u8]\n    ensures { λ r. ⌜ r ≡ r ⌝ }\n{\n    a\n}\n", "a law only for a part of a slice")
 
     def test_a_type_that_hides_what_is_lent(self):
         self.assertSource("pub struct Lent<'a> {\n    pub bytes: &'a mut [u8],\n}\n", "struct Lent holds a reference")
@@ -212,15 +222,15 @@ class LawsFile(ContractsTest):
         self.assertWrong("OneAnswer is the law of no public function")
 
     def test_a_law_besides(self):
-        self.files[LAWS] += "\npub more : OneAnswer alpha·one.Post\nmore κs a x y s t p q = one-answer p q\n"
+        self.files[LAWS] += "\npub more : OneAnswer alpha·one.Post (λ κs r s. r)\nmore κs a x y s t p q = one-answer p q\n"
         self.assertWrong("more is the law of no public function")
 
     def test_a_law_twice(self):
-        self.files[LAWS] += "\npub alpha-one : OneAnswer alpha·one.Post\nalpha-one κs a x y s t p q = one-answer p q\n"
+        self.files[LAWS] += "\npub alpha-one : OneAnswer alpha·one.Post (λ κs r s. r)\nalpha-one κs a x y s t p q = one-answer p q\n"
         self.assertWrong("alpha-one is stated twice")
 
     def test_a_law_that_is_missing(self):
-        self.assertLaw("pub alpha-one : OneAnswer alpha·one.Post\nalpha-one κs a x y s t p q = one-answer p q\n", "", "one has no law alpha-one")
+        self.assertLaw(f"pub alpha-one : {ONE}alpha-one κs a x y s t p q = one-answer p q\n", "", "one has no law alpha-one")
 
     def test_a_second_clause(self):
         self.files[LAWS] += "alpha-counted = one-answer\n"
@@ -240,13 +250,13 @@ class LawsFile(ContractsTest):
         self.assertLaw("alpha-one κs", "unfolding one-answer\nalpha-one κs", "is not followed by its definition")
 
     def test_a_form_from_elsewhere(self):
-        self.assertLaw("specs.OneAnswer.{OneAnswer, OneOutcome", "specs.OneAnswer.{OneOutcome", "no `use` line brings OneAnswer")
+        self.assertLaw("specs.OneAnswer.{OneAnswer, _beside_", "specs.OneAnswer.{_beside_", "no `use` line brings OneAnswer")
 
     def test_a_form_of_another_module(self):
         self.assertLaw("use Rattle.answers.specs.OneAnswer", "use Rattle.alpha.proofs.Mine", "OneAnswer has to stand for")
 
     def test_another_thing_under_the_name_of_a_form(self):
-        self.assertLaw("{one-answer}", "{one-answer, Trivial as OneOutcome}", "OneOutcome is brought in twice")
+        self.assertLaw("{one-answer}", "{one-answer, Trivial as OneAnswer}", "OneAnswer is brought in twice")
 
     def test_another_now(self):
         self.assertLaw("use denote.Ref.{now}", "use alpha.Other.{now}", "now has to stand for denote.Ref.now")
@@ -261,7 +271,7 @@ class LawsFile(ContractsTest):
         self.assertLaw("{one-answer}", "{one-answer, evil as denote}", "denote would stand for the module")
 
     def test_a_comment_at_the_end_of_a_line(self):
-        self.assertLaw("alpha·one.Post\n", "alpha·one.Post -- → Unit\n", "a comment here stands on a line of its own")
+        self.assertLaw(ONE, f"{ONE[:-1]} -- → Unit\n", "a comment here stands on a line of its own")
 
     def test_a_block_comment(self):
         self.assertLaw("-- One answer.", "{- One answer. -}", "a block comment is not read here")

@@ -1,340 +1,339 @@
 -- One answer: a law for every public function, over its real contract (`Post`, which Rattle makes of the source's clauses), with all that
--- is lent to it. tools/check-contracts works out each law's type from the function's signature, and holds this file to it.
+-- a caller sees of a call. `tools/check-contracts --write` writes this file from the signatures, and tools/check-contracts holds it to them.
 -- Assumes nothing.
-use mathlib.Core.List.{[], _∷_}
-use mathlib.Core.Path.{refl}
 use denote.Ref.{now}
-use Rattle.basics.proofs.Alike.{one-answer, _then_}
-use Rattle.answers.specs.OneAnswer.{OneAnswer, OneOutcome, OnePart}
+use Rattle.basics.proofs.Alike.{one-answer}
+use Rattle.answers.proofs.Alike.{_and_}
+use Rattle.answers.specs.OneAnswer.{OneAnswer, _beside_}
+use Rattle.basics.proofs.number.Reads as basics·number
 use Rattle.basics.proofs.flag.Reads as basics·flag
+use Rattle.basics.proofs.word.Reads as basics·word
 use Rattle.basics.proofs.high.Reads as basics·high
 use Rattle.basics.proofs.low.Reads as basics·low
-use Rattle.basics.proofs.number.Reads as basics·number
 use Rattle.basics.proofs.put.Reads as basics·put
 use Rattle.basics.proofs.width.Width.counted.Reads as basics·counted
-use Rattle.basics.proofs.word.Reads as basics·word
-use Rattle.raster.proofs.registers.Registers.by_rows.Reads as raster·by-rows
-use Rattle.raster.proofs.registers.Registers.cursor_delayed.Reads as raster·cursor-delayed
-use Rattle.raster.proofs.registers.Registers.display_delayed.Reads as raster·display-delayed
 use Rattle.raster.proofs.registers.Registers.start.Reads as raster·start
-use Rattle.raster.proofs.scan.Scan.next.Reads as raster·next
+use Rattle.raster.proofs.registers.Registers.by_rows.Reads as raster·by-rows
+use Rattle.raster.proofs.registers.Registers.display_delayed.Reads as raster·display-delayed
+use Rattle.raster.proofs.registers.Registers.cursor_delayed.Reads as raster·cursor-delayed
 use Rattle.raster.proofs.scan.Scan.top.Reads as raster·top
+use Rattle.raster.proofs.scan.Scan.next.Reads as raster·next
 use Rattle.raster.proofs.sync.Sync.arrive.Reads as raster·arrive
-use Rattle.facts.proofs.address.Reads as facts·address
-use Rattle.facts.proofs.cursor.Reads as facts·cursor
 use Rattle.facts.proofs.facts.Facts.at.Reads as facts·at
-use Rattle.facts.proofs.latch.Reads as facts·latch
-use Rattle.facts.proofs.latched.Reads as facts·latched
-use Rattle.facts.proofs.ma.Reads as facts·ma
 use Rattle.facts.proofs.picture.Reads as facts·picture
+use Rattle.facts.proofs.address.Reads as facts·address
+use Rattle.facts.proofs.ma.Reads as facts·ma
+use Rattle.facts.proofs.latched.Reads as facts·latched
+use Rattle.facts.proofs.latch.Reads as facts·latch
+use Rattle.facts.proofs.cursor.Reads as facts·cursor
 use Rattle.clocks.proofs.place.Place.walk.Reads as clocks·walk
-use Rattle.controller.proofs.chip.Controller.clock.Reads as controller·clock
 use Rattle.controller.proofs.chip.Controller.fresh.Reads as controller·fresh
+use Rattle.controller.proofs.chip.Controller.reset.Reads as controller·reset
+use Rattle.controller.proofs.chip.Controller.write.Reads as controller·write
+use Rattle.controller.proofs.chip.Controller.clock.Reads as controller·clock
+use Rattle.controller.proofs.chip.Controller.strike.Reads as controller·strike
 use Rattle.controller.proofs.chip.Controller.outputs.Reads as controller·outputs
 use Rattle.controller.proofs.chip.Controller.read.Reads as controller·read
-use Rattle.controller.proofs.chip.Controller.reset.Reads as controller·reset
-use Rattle.controller.proofs.chip.Controller.strike.Reads as controller·strike
-use Rattle.controller.proofs.chip.Controller.write.Reads as controller·write
-use Rattle.locator.proofs.answer.Located.cell.Reads as locator·cell
 use Rattle.locator.proofs.answer.Located.refusal.Reads as locator·refusal
+use Rattle.locator.proofs.answer.Located.cell.Reads as locator·cell
 use Rattle.locator.proofs.locate.Reads as locator·locate
-use Rattle.control.proofs.bits.Control.after.Reads as control·after
 use Rattle.control.proofs.bits.Control.clear.Reads as control·clear
-use Rattle.control.proofs.bits.Control.f.Reads as control·f
-use Rattle.control.proofs.bits.Control.m0.Reads as control·m0
-use Rattle.control.proofs.bits.Control.m1.Reads as control·m1
 use Rattle.control.proofs.bits.Control.mode.Reads as control·mode
+use Rattle.control.proofs.bits.Control.f.Reads as control·f
 use Rattle.control.proofs.bits.Control.p.Reads as control·p
 use Rattle.control.proofs.bits.Control.r0.Reads as control·r0
 use Rattle.control.proofs.bits.Control.r1.Reads as control·r1
+use Rattle.control.proofs.bits.Control.m0.Reads as control·m0
+use Rattle.control.proofs.bits.Control.m1.Reads as control·m1
 use Rattle.control.proofs.bits.Control.ty.Reads as control·ty
-use Rattle.control.proofs.bits.Control.written.Reads as control·written
 use Rattle.control.proofs.is_control_write.Reads as control·is-control-write
-use Rattle.display.proofs.counter.Display.fall.Reads as display·fall
-use Rattle.display.proofs.counter.Display.fetches.Reads as display·fetches
-use Rattle.display.proofs.counter.Display.preload.Reads as display·preload
+use Rattle.control.proofs.bits.Control.written.Reads as control·written
+use Rattle.control.proofs.bits.Control.after.Reads as control·after
 use Rattle.display.proofs.counter.Display.start.Reads as display·start
+use Rattle.display.proofs.counter.Display.fetches.Reads as display·fetches
+use Rattle.display.proofs.counter.Display.fall.Reads as display·fall
+use Rattle.display.proofs.counter.Display.preload.Reads as display·preload
 use Rattle.display.proofs.counter.Display.with_b0.Reads as display·with-b0
 use Rattle.display.proofs.modes.Mode.numbered.Reads as display·numbered
+use Rattle.multiplexer.proofs.chip.Multiplexer.fresh.Reads as multiplexer·fresh
+use Rattle.multiplexer.proofs.chip.Multiplexer.reset.Reads as multiplexer·reset
 use Rattle.multiplexer.proofs.chip.Multiplexer.bus.Reads as multiplexer·bus
 use Rattle.multiplexer.proofs.chip.Multiplexer.fetches.Reads as multiplexer·fetches
-use Rattle.multiplexer.proofs.chip.Multiplexer.fresh.Reads as multiplexer·fresh
-use Rattle.multiplexer.proofs.chip.Multiplexer.levels.Reads as multiplexer·levels
-use Rattle.multiplexer.proofs.chip.Multiplexer.reset.Reads as multiplexer·reset
 use Rattle.multiplexer.proofs.chip.Multiplexer.shown.Reads as multiplexer·shown
+use Rattle.multiplexer.proofs.chip.Multiplexer.levels.Reads as multiplexer·levels
 use Rattle.record.proofs.decode.Reads as record·decode
 use Rattle.record.proofs.kinds.Decoded.number.Reads as record·number
-use Rattle.answer.proofs.Answer.bytes.Reads as answer·bytes
 use Rattle.answer.proofs.Answer.done.Reads as answer·done
 use Rattle.answer.proofs.Answer.plain.Reads as answer·plain
+use Rattle.answer.proofs.Answer.bytes.Reads as answer·bytes
 use Rattle.text.proofs.put_hex.Reads as text·put-hex
 use Rattle.text.proofs.said.Reads as text·said
+use Rattle.bodies.proofs.read_answer.Reads as bodies·read-answer
+use Rattle.bodies.proofs.time_answer.Reads as bodies·time-answer
+use Rattle.bodies.proofs.strike_answer.Reads as bodies·strike-answer
 use Rattle.bodies.proofs.bus_answer.Reads as bodies·bus-answer
+use Rattle.bodies.proofs.shown_answer.Reads as bodies·shown-answer
 use Rattle.bodies.proofs.levels_answer.Reads as bodies·levels-answer
 use Rattle.bodies.proofs.located_answer.Reads as bodies·located-answer
-use Rattle.bodies.proofs.read_answer.Reads as bodies·read-answer
-use Rattle.bodies.proofs.shown_answer.Reads as bodies·shown-answer
-use Rattle.bodies.proofs.strike_answer.Reads as bodies·strike-answer
-use Rattle.bodies.proofs.time_answer.Reads as bodies·time-answer
-use Rattle.bench.proofs.clock.Reads as bench·clock
-use Rattle.bench.proofs.step.Bench.step.Reads as bench·step
-use Rattle.bench.proofs.strike.Reads as bench·strike
 use Rattle.bench.proofs.write.Reads as bench·write
-use Rattle.replay.proofs.replay.Reads as replay·replay
+use Rattle.bench.proofs.clock.Reads as bench·clock
+use Rattle.bench.proofs.strike.Reads as bench·strike
+use Rattle.bench.proofs.step.Bench.step.Reads as bench·step
 use Rattle.replay.proofs.unread_rest.Reads as replay·unread-rest
+use Rattle.replay.proofs.replay.Reads as replay·replay
 use Rattle.lister.proofs.list.Reads as lister·list
 use Rattle.lister.proofs.room.Reads as lister·room
-use Rattle.exports.proofs.controller_clock.Reads as exports·controller-clock
-use Rattle.exports.proofs.controller_locate.Reads as exports·controller-locate
 use Rattle.exports.proofs.controller_reset.Reads as exports·controller-reset
+use Rattle.exports.proofs.controller_clock.Reads as exports·controller-clock
 use Rattle.exports.proofs.controller_strike.Reads as exports·controller-strike
+use Rattle.exports.proofs.controller_locate.Reads as exports·controller-locate
 use Rattle.exports.proofs.display_fetches.Reads as exports·display-fetches
 
-pub basics-flag : OneAnswer basics·flag.Post
-basics-flag κs a x y s t p q = one-answer (p .0) (q .0)
-
-pub basics-high : OneAnswer basics·high.Post
-basics-high κs a x y s t p q = one-answer p q
-
-pub basics-low : OneAnswer basics·low.Post
-basics-low κs a x y s t p q = one-answer p q
-
-pub basics-number : OneAnswer basics·number.Post
+pub basics-number : OneAnswer basics·number.Post (λ κs r s. r)
 basics-number κs a x y s t p q = one-answer p q
 
-pub basics-put : OneOutcome basics·put.Post (λ κs s. now (s .0) ∷ now (s .1 .1 .0) ∷ [])
-basics-put κs a x y s t p q = (one-answer (p .0) (q .0), one-answer (p .1 .0) (q .1 .0) then one-answer (p .1 .1) (q .1 .1) then refl)
+pub basics-flag : OneAnswer basics·flag.Post (λ κs r s. r)
+basics-flag κs a x y s t p q = one-answer (p .0) (q .0)
 
-pub basics-counted : OneAnswer basics·counted.Post
-basics-counted κs a x y s t p q = one-answer p q
-
-pub basics-word : OneAnswer basics·word.Post
+pub basics-word : OneAnswer basics·word.Post (λ κs r s. r)
 basics-word κs a x y s t p q = one-answer p q
 
-pub raster-by-rows : OneAnswer raster·by-rows.Post
-raster-by-rows κs a x y s t p q = one-answer p q
+pub basics-high : OneAnswer basics·high.Post (λ κs r s. r)
+basics-high κs a x y s t p q = one-answer p q
 
-pub raster-cursor-delayed : OneAnswer raster·cursor-delayed.Post
-raster-cursor-delayed κs a x y s t p q = one-answer p q
+pub basics-low : OneAnswer basics·low.Post (λ κs r s. r)
+basics-low κs a x y s t p q = one-answer p q
 
-pub raster-display-delayed : OneAnswer raster·display-delayed.Post
-raster-display-delayed κs a x y s t p q = one-answer p q
+pub basics-put : OneAnswer basics·put.Post (λ κs r s. r beside now (s .0) beside now (s .1 .1 .0))
+basics-put κs a x y s t p q = one-answer (p .0) (q .0) and one-answer (p .1 .0) (q .1 .0) and one-answer (p .1 .1) (q .1 .1)
 
-pub raster-start : OneAnswer raster·start.Post
+pub basics-counted : OneAnswer basics·counted.Post (λ κs r s. r)
+basics-counted κs a x y s t p q = one-answer p q
+
+pub raster-start : OneAnswer raster·start.Post (λ κs r s. r)
 raster-start κs a x y s t p q = one-answer p q
 
-pub raster-next : OneAnswer raster·next.Post
-raster-next κs a x y s t p q = one-answer p q
+pub raster-by-rows : OneAnswer raster·by-rows.Post (λ κs r s. r)
+raster-by-rows κs a x y s t p q = one-answer p q
 
-pub raster-top : OneAnswer raster·top.Post
+pub raster-display-delayed : OneAnswer raster·display-delayed.Post (λ κs r s. r)
+raster-display-delayed κs a x y s t p q = one-answer p q
+
+pub raster-cursor-delayed : OneAnswer raster·cursor-delayed.Post (λ κs r s. r)
+raster-cursor-delayed κs a x y s t p q = one-answer p q
+
+pub raster-top : OneAnswer raster·top.Post (λ κs r s. r)
 raster-top κs a x y s t p q = one-answer p q
 
-pub raster-arrive : OneAnswer raster·arrive.Post
+pub raster-next : OneAnswer raster·next.Post (λ κs r s. r)
+raster-next κs a x y s t p q = one-answer p q
+
+pub raster-arrive : OneAnswer raster·arrive.Post (λ κs r s. r)
 raster-arrive κs a x y s t p q = one-answer p q
 
-pub facts-address : OneAnswer facts·address.Post
-facts-address κs a x y s t p q = one-answer p q
-
-pub facts-cursor : OneAnswer facts·cursor.Post
-facts-cursor κs a x y s t p q = one-answer p q
-
-pub facts-at : OneAnswer facts·at.Post
+pub facts-at : OneAnswer facts·at.Post (λ κs r s. r)
 facts-at κs a x y s t p q = one-answer p q
 
-pub facts-latch : OneAnswer facts·latch.Post
-facts-latch κs a x y s t p q = one-answer p q
-
-pub facts-latched : OneAnswer facts·latched.Post
-facts-latched κs a x y s t p q = one-answer p q
-
-pub facts-ma : OneAnswer facts·ma.Post
-facts-ma κs a x y s t p q = one-answer p q
-
-pub facts-picture : OneAnswer facts·picture.Post
+pub facts-picture : OneAnswer facts·picture.Post (λ κs r s. r)
 facts-picture κs a x y s t p q = one-answer p q
 
-pub clocks-walk : OneAnswer clocks·walk.Post
+pub facts-address : OneAnswer facts·address.Post (λ κs r s. r)
+facts-address κs a x y s t p q = one-answer p q
+
+pub facts-ma : OneAnswer facts·ma.Post (λ κs r s. r)
+facts-ma κs a x y s t p q = one-answer p q
+
+pub facts-latched : OneAnswer facts·latched.Post (λ κs r s. r)
+facts-latched κs a x y s t p q = one-answer p q
+
+pub facts-latch : OneAnswer facts·latch.Post (λ κs r s. r)
+facts-latch κs a x y s t p q = one-answer p q
+
+pub facts-cursor : OneAnswer facts·cursor.Post (λ κs r s. r)
+facts-cursor κs a x y s t p q = one-answer p q
+
+pub clocks-walk : OneAnswer clocks·walk.Post (λ κs r s. r)
 clocks-walk κs a x y s t p q = one-answer p q
 
-pub controller-clock : OneAnswer controller·clock.Post
-controller-clock κs a x y s t p q = one-answer p q
-
-pub controller-fresh : OneAnswer controller·fresh.Post
+pub controller-fresh : OneAnswer controller·fresh.Post (λ κs r s. r)
 controller-fresh κs a x y s t p q = one-answer p q
 
-pub controller-outputs : OneAnswer controller·outputs.Post
-controller-outputs κs a x y s t p q = one-answer p q
-
-pub controller-read : OneAnswer controller·read.Post
-controller-read κs a x y s t p q = one-answer p q
-
-pub controller-reset : OneAnswer controller·reset.Post
+pub controller-reset : OneAnswer controller·reset.Post (λ κs r s. r)
 controller-reset κs a x y s t p q = one-answer p q
 
-pub controller-strike : OneAnswer controller·strike.Post
-controller-strike κs a x y s t p q = one-answer p q
-
-pub controller-write : OneAnswer controller·write.Post
+pub controller-write : OneAnswer controller·write.Post (λ κs r s. r)
 controller-write κs a x y s t p q = one-answer p q
 
-pub locator-cell : OneAnswer locator·cell.Post
-locator-cell κs a x y s t p q = one-answer p q
+pub controller-clock : OneAnswer controller·clock.Post (λ κs r s. r)
+controller-clock κs a x y s t p q = one-answer p q
 
-pub locator-refusal : OneAnswer locator·refusal.Post
+pub controller-strike : OneAnswer controller·strike.Post (λ κs r s. r)
+controller-strike κs a x y s t p q = one-answer p q
+
+pub controller-outputs : OneAnswer controller·outputs.Post (λ κs r s. r)
+controller-outputs κs a x y s t p q = one-answer p q
+
+pub controller-read : OneAnswer controller·read.Post (λ κs r s. r)
+controller-read κs a x y s t p q = one-answer p q
+
+pub locator-refusal : OneAnswer locator·refusal.Post (λ κs r s. r)
 locator-refusal κs a x y s t p q = one-answer p q
 
-pub locator-locate : OneAnswer locator·locate.Post
+pub locator-cell : OneAnswer locator·cell.Post (λ κs r s. r)
+locator-cell κs a x y s t p q = one-answer p q
+
+pub locator-locate : OneAnswer locator·locate.Post (λ κs r s. r)
 locator-locate κs a x y s t p q = one-answer p q
 
-pub control-after : OneAnswer control·after.Post
-control-after κs a x y s t p q = one-answer p q
-
-pub control-clear : OneAnswer control·clear.Post
+pub control-clear : OneAnswer control·clear.Post (λ κs r s. r)
 control-clear κs a x y s t p q = one-answer p q
 
-pub control-f : OneAnswer control·f.Post
-control-f κs a x y s t p q = one-answer p q
-
-pub control-m0 : OneAnswer control·m0.Post
-control-m0 κs a x y s t p q = one-answer p q
-
-pub control-m1 : OneAnswer control·m1.Post
-control-m1 κs a x y s t p q = one-answer p q
-
-pub control-mode : OneAnswer control·mode.Post
+pub control-mode : OneAnswer control·mode.Post (λ κs r s. r)
 control-mode κs a x y s t p q = one-answer p q
 
-pub control-p : OneAnswer control·p.Post
+pub control-f : OneAnswer control·f.Post (λ κs r s. r)
+control-f κs a x y s t p q = one-answer p q
+
+pub control-p : OneAnswer control·p.Post (λ κs r s. r)
 control-p κs a x y s t p q = one-answer p q
 
-pub control-r0 : OneAnswer control·r0.Post
+pub control-r0 : OneAnswer control·r0.Post (λ κs r s. r)
 control-r0 κs a x y s t p q = one-answer p q
 
-pub control-r1 : OneAnswer control·r1.Post
+pub control-r1 : OneAnswer control·r1.Post (λ κs r s. r)
 control-r1 κs a x y s t p q = one-answer p q
 
-pub control-ty : OneAnswer control·ty.Post
+pub control-m0 : OneAnswer control·m0.Post (λ κs r s. r)
+control-m0 κs a x y s t p q = one-answer p q
+
+pub control-m1 : OneAnswer control·m1.Post (λ κs r s. r)
+control-m1 κs a x y s t p q = one-answer p q
+
+pub control-ty : OneAnswer control·ty.Post (λ κs r s. r)
 control-ty κs a x y s t p q = one-answer p q
 
-pub control-written : OneAnswer control·written.Post
-control-written κs a x y s t p q = one-answer p q
-
-pub control-is-control-write : OneAnswer control·is-control-write.Post
+pub control-is-control-write : OneAnswer control·is-control-write.Post (λ κs r s. r)
 control-is-control-write κs a x y s t p q = one-answer p q
 
-pub display-fall : OneAnswer display·fall.Post
-display-fall κs a x y s t p q = one-answer p q
+pub control-written : OneAnswer control·written.Post (λ κs r s. r)
+control-written κs a x y s t p q = one-answer p q
 
-pub display-fetches : OneAnswer display·fetches.Post
-display-fetches κs a x y s t p q = one-answer p q
+pub control-after : OneAnswer control·after.Post (λ κs r s. r)
+control-after κs a x y s t p q = one-answer p q
 
-pub display-preload : OneAnswer display·preload.Post
-display-preload κs a x y s t p q = one-answer p q
-
-pub display-start : OneAnswer display·start.Post
+pub display-start : OneAnswer display·start.Post (λ κs r s. r)
 display-start κs a x y s t p q = one-answer p q
 
-pub display-with-b0 : OneAnswer display·with-b0.Post
+pub display-fetches : OneAnswer display·fetches.Post (λ κs r s. r)
+display-fetches κs a x y s t p q = one-answer p q
+
+pub display-fall : OneAnswer display·fall.Post (λ κs r s. r)
+display-fall κs a x y s t p q = one-answer p q
+
+pub display-preload : OneAnswer display·preload.Post (λ κs r s. r)
+display-preload κs a x y s t p q = one-answer p q
+
+pub display-with-b0 : OneAnswer display·with-b0.Post (λ κs r s. r)
 display-with-b0 κs a x y s t p q = one-answer p q
 
-pub display-numbered : OneAnswer display·numbered.Post
+pub display-numbered : OneAnswer display·numbered.Post (λ κs r s. r)
 display-numbered κs a x y s t p q = one-answer p q
 
-pub multiplexer-bus : OneAnswer multiplexer·bus.Post
-multiplexer-bus κs a x y s t p q = one-answer p q
-
-pub multiplexer-fetches : OneAnswer multiplexer·fetches.Post
-multiplexer-fetches κs a x y s t p q = one-answer p q
-
-pub multiplexer-fresh : OneAnswer multiplexer·fresh.Post
+pub multiplexer-fresh : OneAnswer multiplexer·fresh.Post (λ κs r s. r)
 multiplexer-fresh κs a x y s t p q = one-answer p q
 
-pub multiplexer-levels : OneAnswer multiplexer·levels.Post
-multiplexer-levels κs a x y s t p q = one-answer p q
-
-pub multiplexer-reset : OneAnswer multiplexer·reset.Post
+pub multiplexer-reset : OneAnswer multiplexer·reset.Post (λ κs r s. r)
 multiplexer-reset κs a x y s t p q = one-answer p q
 
-pub multiplexer-shown : OneAnswer multiplexer·shown.Post
+pub multiplexer-bus : OneAnswer multiplexer·bus.Post (λ κs r s. r)
+multiplexer-bus κs a x y s t p q = one-answer p q
+
+pub multiplexer-fetches : OneAnswer multiplexer·fetches.Post (λ κs r s. r)
+multiplexer-fetches κs a x y s t p q = one-answer p q
+
+pub multiplexer-shown : OneAnswer multiplexer·shown.Post (λ κs r s. r)
 multiplexer-shown κs a x y s t p q = one-answer p q
 
-pub record-decode : OneAnswer record·decode.Post
+pub multiplexer-levels : OneAnswer multiplexer·levels.Post (λ κs r s. r)
+multiplexer-levels κs a x y s t p q = one-answer p q
+
+pub record-decode : OneAnswer record·decode.Post (λ κs r s. r)
 record-decode κs a x y s t p q = one-answer p q
 
-pub record-number : OneAnswer record·number.Post
+pub record-number : OneAnswer record·number.Post (λ κs r s. r)
 record-number κs a x y s t p q = one-answer p q
 
-pub answer-bytes : OneAnswer answer·bytes.Post
-answer-bytes κs a x y s t p q = one-answer p q
-
-pub answer-done : OneAnswer answer·done.Post
+pub answer-done : OneAnswer answer·done.Post (λ κs r s. r)
 answer-done κs a x y s t p q = one-answer p q
 
-pub answer-plain : OneAnswer answer·plain.Post
+pub answer-plain : OneAnswer answer·plain.Post (λ κs r s. r)
 answer-plain κs a x y s t p q = one-answer p q
 
-pub text-put-hex : OneOutcome text·put-hex.Post (λ κs s. now (s .0) ∷ now (s .1 .1 .0) ∷ [])
-text-put-hex κs a x y s t p q = (one-answer (p .0) (q .0), one-answer (p .1 .0) (q .1 .0) then one-answer (p .1 .1) (q .1 .1) then refl)
+pub answer-bytes : OneAnswer answer·bytes.Post (λ κs r s. r)
+answer-bytes κs a x y s t p q = one-answer p q
 
-pub text-said : OneOutcome text·said.Post (λ κs s. now (s .1 .0) ∷ [])
-text-said κs a x y s t p q = (one-answer (p .0) (q .0), one-answer (p .1 .1) (q .1 .1) then refl)
+pub text-put-hex : OneAnswer text·put-hex.Post (λ κs r s. r beside now (s .0) beside now (s .1 .1 .0))
+text-put-hex κs a x y s t p q = one-answer (p .0) (q .0) and one-answer (p .1 .0) (q .1 .0) and one-answer (p .1 .1) (q .1 .1)
 
-pub bodies-bus-answer : OneAnswer bodies·bus-answer.Post
-bodies-bus-answer κs a x y s t p q = one-answer p q
+pub text-said : OneAnswer text·said.Post (λ κs r s. r beside now (s .1 .0))
+text-said κs a x y s t p q = one-answer (p .0) (q .0) and one-answer (p .1 .1) (q .1 .1)
 
-pub bodies-levels-answer : OneAnswer bodies·levels-answer.Post
-bodies-levels-answer κs a x y s t p q = one-answer p q
-
-pub bodies-located-answer : OneAnswer bodies·located-answer.Post
-bodies-located-answer κs a x y s t p q = one-answer p q
-
-pub bodies-read-answer : OneAnswer bodies·read-answer.Post
+pub bodies-read-answer : OneAnswer bodies·read-answer.Post (λ κs r s. r)
 bodies-read-answer κs a x y s t p q = one-answer p q
 
-pub bodies-shown-answer : OneAnswer bodies·shown-answer.Post
-bodies-shown-answer κs a x y s t p q = one-answer p q
-
-pub bodies-strike-answer : OneAnswer bodies·strike-answer.Post
-bodies-strike-answer κs a x y s t p q = one-answer p q
-
-pub bodies-time-answer : OneAnswer bodies·time-answer.Post
+pub bodies-time-answer : OneAnswer bodies·time-answer.Post (λ κs r s. r)
 bodies-time-answer κs a x y s t p q = one-answer p q
 
-pub bench-clock : OneAnswer bench·clock.Post
-bench-clock κs a x y s t p q = one-answer p q
+pub bodies-strike-answer : OneAnswer bodies·strike-answer.Post (λ κs r s. r)
+bodies-strike-answer κs a x y s t p q = one-answer p q
 
-pub bench-step : OneAnswer bench·step.Post
-bench-step κs a x y s t p q = one-answer p q
+pub bodies-bus-answer : OneAnswer bodies·bus-answer.Post (λ κs r s. r)
+bodies-bus-answer κs a x y s t p q = one-answer p q
 
-pub bench-strike : OneAnswer bench·strike.Post
-bench-strike κs a x y s t p q = one-answer p q
+pub bodies-shown-answer : OneAnswer bodies·shown-answer.Post (λ κs r s. r)
+bodies-shown-answer κs a x y s t p q = one-answer p q
 
-pub bench-write : OneAnswer bench·write.Post
+pub bodies-levels-answer : OneAnswer bodies·levels-answer.Post (λ κs r s. r)
+bodies-levels-answer κs a x y s t p q = one-answer p q
+
+pub bodies-located-answer : OneAnswer bodies·located-answer.Post (λ κs r s. r)
+bodies-located-answer κs a x y s t p q = one-answer p q
+
+pub bench-write : OneAnswer bench·write.Post (λ κs r s. r)
 bench-write κs a x y s t p q = one-answer p q
 
-pub replay-replay : OneOutcome replay·replay.Post (λ κs s. now (s .1 .0) ∷ now (s .0) ∷ [])
-replay-replay κs a x y s t p q = (one-answer (p .0) (q .0), one-answer (p .1 .0) (q .1 .0) then one-answer (p .1 .1) (q .1 .1) then refl)
+pub bench-clock : OneAnswer bench·clock.Post (λ κs r s. r)
+bench-clock κs a x y s t p q = one-answer p q
 
-pub replay-unread-rest : OnePart replay·unread-rest.Post (λ κs r. now r) (λ κs r. r .ptr) (λ κs s. now (s .0) ∷ [])
-replay-unread-rest κs a x y s t p q = (one-answer (p .0) (q .0), one-answer (p .1 .0) (q .1 .0), one-answer (p .1 .1) (q .1 .1) then refl)
+pub bench-strike : OneAnswer bench·strike.Post (λ κs r s. r)
+bench-strike κs a x y s t p q = one-answer p q
 
-pub lister-list : OneOutcome lister·list.Post (λ κs s. now (s .1 .0) ∷ now (s .0) ∷ [])
-lister-list κs a x y s t p q = (one-answer (p .0) (q .0), one-answer (p .1 .0) (q .1 .0) then one-answer (p .1 .1 .1) (q .1 .1 .1) then refl)
+pub bench-step : OneAnswer bench·step.Post (λ κs r s. r)
+bench-step κs a x y s t p q = one-answer p q
 
-pub lister-room : OneOutcome lister·room.Post (λ κs s. now (s .1 .0) ∷ now (s .0) ∷ [])
-lister-room κs a x y s t p q = (one-answer (p .0) (q .0), one-answer (p .1 .0) (q .1 .0) then one-answer (p .1 .1 .1) (q .1 .1 .1) then refl)
+pub replay-unread-rest : OneAnswer replay·unread-rest.Post (λ κs r s. now r beside r .ptr beside now (s .0))
+replay-unread-rest κs a x y s t p q = one-answer (p .0) (q .0) and one-answer (p .1 .0) (q .1 .0) and one-answer (p .1 .1) (q .1 .1)
 
-pub exports-controller-clock : OneAnswer exports·controller-clock.Post
-exports-controller-clock κs a x y s t p q = one-answer p q
+pub replay-replay : OneAnswer replay·replay.Post (λ κs r s. r beside now (s .1 .0) beside now (s .0))
+replay-replay κs a x y s t p q = one-answer (p .0) (q .0) and one-answer (p .1 .0) (q .1 .0) and one-answer (p .1 .1) (q .1 .1)
 
-pub exports-controller-locate : OneAnswer exports·controller-locate.Post
-exports-controller-locate κs a x y s t p q = one-answer p q
+pub lister-list : OneAnswer lister·list.Post (λ κs r s. r beside now (s .1 .0) beside now (s .0))
+lister-list κs a x y s t p q = one-answer (p .0) (q .0) and one-answer (p .1 .0) (q .1 .0) and one-answer (p .1 .1 .1) (q .1 .1 .1)
 
-pub exports-controller-reset : OneAnswer exports·controller-reset.Post
+pub lister-room : OneAnswer lister·room.Post (λ κs r s. r beside now (s .1 .0) beside now (s .0))
+lister-room κs a x y s t p q = one-answer (p .0) (q .0) and one-answer (p .1 .0) (q .1 .0) and one-answer (p .1 .1 .1) (q .1 .1 .1)
+
+pub exports-controller-reset : OneAnswer exports·controller-reset.Post (λ κs r s. r)
 exports-controller-reset κs a x y s t p q = one-answer p q
 
-pub exports-controller-strike : OneAnswer exports·controller-strike.Post
+pub exports-controller-clock : OneAnswer exports·controller-clock.Post (λ κs r s. r)
+exports-controller-clock κs a x y s t p q = one-answer p q
+
+pub exports-controller-strike : OneAnswer exports·controller-strike.Post (λ κs r s. r)
 exports-controller-strike κs a x y s t p q = one-answer p q
 
-pub exports-display-fetches : OneAnswer exports·display-fetches.Post
+pub exports-controller-locate : OneAnswer exports·controller-locate.Post (λ κs r s. r)
+exports-controller-locate κs a x y s t p q = one-answer p q
+
+pub exports-display-fetches : OneAnswer exports·display-fetches.Post (λ κs r s. r)
 exports-display-fetches κs a x y s t p q = one-answer p q
