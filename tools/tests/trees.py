@@ -11,6 +11,7 @@ class TreeTest(unittest.TestCase):
 
     def setUp(self):
         self.files = dict(self.FILES)
+        self.there = {}  # what was written out before
         folder = tempfile.TemporaryDirectory()
         self.addCleanup(folder.cleanup)
         self.top = pathlib.Path(folder.name)
@@ -21,8 +22,11 @@ class TreeTest(unittest.TestCase):
         self.files[path] = self.files[path].replace(old, new)
 
     def write(self):
-        """Writes the files out."""
+        """Writes the files out that are not there yet as they are."""
         for path, text in self.files.items():
+            if self.there.get(path) == text:
+                continue
+            self.there[path] = text
             (self.top / path).parent.mkdir(parents=True, exist_ok=True)
             (self.top / path).write_text(text)
 
