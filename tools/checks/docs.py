@@ -4,7 +4,8 @@ import re
 from checks import markdown, places, promises, rules
 from checks.things import Things
 
-PAGES = ("README.md", "docs/PROMISES.md", "docs/RULES.md", "docs/DECISIONS.md", "docs/EVIDENCE.md", "docs/CHECK-TIMES.md")
+PAGES = ("README.md", "docs/PROMISES.md", "docs/RULES.md", "docs/DECISIONS.md", "docs/EVIDENCE.md", "docs/CHECK-TIMES.md",
+         "docs/PROVING.md")
 TIMES = "docs/CHECK-TIMES.md"
 TIMES_HEAD = ("crate", "functions", "seconds", "memory, MB", "must-fail edits")
 
@@ -104,7 +105,7 @@ def check(top):
         text = (top / page).read_text()
         for part in (check_quotes, check_paths, check_hidden, check_counts, check_crates):
             wrong += part(things, page, text)
-    for page in ("README.md", "docs/DECISIONS.md", "docs/EVIDENCE.md", TIMES):
+    for page in ("README.md", "docs/DECISIONS.md", "docs/EVIDENCE.md", "docs/PROVING.md", TIMES):
         wrong += check_form(page, (top / page).read_text())
     wrong += rules.check(things)
     wrong += promises.check(things)

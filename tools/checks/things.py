@@ -9,9 +9,11 @@ KNOWN = {
     "lo", "hi", "data", "kind",
     "too long", "end", " odd", "no room",
     "let else", "let .. else", "#[repr(C)]", 'extern "C"', "requires", "ensures", "main", "read", "write",
-    "rt", "cargo", "rt check NAME", "rt ci", "N passed, 0 failed",
+    "rt", "cargo", "rt check NAME", "rt ci", "rt fmt", "rt dev NAME", "rt dev NAME --generated DIR", "N passed, 0 failed",
+    "abbrev", "unfoldable", "unfolding", "let", "let mut", "match", "&", "&&", "eqb", "Statement", "Tie",
+    "c", "refl", "cc", "rw", "ap", "search needs", "search cases", "search cases depth 9",
 }
-PATTERNS = (r"[0-9a-f]{16}", r"\$[0-9A-F]{2,4}", r"\d+", r"R\d{1,2}", r"B\d{1,2}")
+PATTERNS = (r"[0-9a-f]{16}", r"\$[0-9A-F]{2,4}", r"\d+", r"R\d{1,2}", r"B\d{1,2}", r"Need-[\w-]+", r"\.\.-spec", r"(?:c )?\.\w+(?: \.\w+)*")
 
 
 class Things:
@@ -112,10 +114,22 @@ class Things:
             return True
         return any(self.has_definition(crate, name) or self.has_code(crate, name) or self.has_type(crate, name) for crate in self.crates)
 
+    def command_fault(self, words):
+        """Why a command's words name nothing, or nothing where they do: a tool with its options, or `rt dev` of a crate."""
+        tool, *options = words
+        if tool == "rt":
+            return "" if len(words) == 3 and words[1] == "dev" and words[2] in self.crates else f"`{' '.join(words)}` is no command"
+        if not (self.top / tool).is_file():
+            return f"there is no {tool}"
+        unknown = [word for word in options if word.startswith("--") and word not in (self.top / tool).read_text()]
+        return f"{tool} has no {unknown[0]}" if unknown else ""
+
     def fault_of(self, quoted):
         """Why a quoted thing names nothing, or nothing where it does."""
         if quoted in KNOWN or any(re.fullmatch(pattern, quoted) for pattern in PATTERNS):
             return ""
+        if re.match(r"(?:rt|tools/\S+) \S", quoted):
+            return self.command_fault(quoted.split(" "))
         place = re.fullmatch(r"(\S+/\S+\.\w+): (\S+)", quoted)
         entry = re.fullmatch(r"(\w+): (\S+)", quoted)
         if place:

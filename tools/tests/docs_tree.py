@@ -5,7 +5,7 @@ from checks import docs, fixed, promises, statements
 from tests.trees import TreeTest
 
 RULES, PROMISES, DECISIONS, TIMES = "docs/RULES.md", "docs/PROMISES.md", "docs/DECISIONS.md", "docs/CHECK-TIMES.md"
-EVIDENCE = "docs/EVIDENCE.md"
+EVIDENCE, PROVING = "docs/EVIDENCE.md", "docs/PROVING.md"
 ONE = "crates/alpha/specs/One.antt"
 FILE = promises.FILE
 HEAD = "| promise | statement | proof | restated as | refused |\n|---|---|---|---|---|\n"
@@ -13,7 +13,7 @@ HEAD = "| promise | statement | proof | restated as | refused |\n|---|---|---|--
 PARTS = "\n| part | statement | refused |\n|---|---|---|\n"
 FILES = {
     "crates.txt": "alpha:\npromises: alpha\n",
-    "tools/check-docs": "",
+    "tools/check-docs": "takes --all",
     "crates/alpha/src/lib.rt": """// The word ghostly stands in a comment only, as does fn ghostly().
 ghost use Rattle.alpha.specs.One.{oneOf};
 mod width;
@@ -106,6 +106,7 @@ An entry `alpha: oneOf` names a thing.
     ) + PARTS + "| both | `crates/alpha/specs/One.antt: first`, `crates/alpha/specs/One.antt: second` | `alpha: false` |\n",
     DECISIONS: "# Decisions\n\nSee `alpha/src/width.rt`, `Width::counted`, `alpha::Width`, `Width::MASKS`, `oneOf`\nand `alpha::one`.\n",
     EVIDENCE: "# Evidence\n\n| tried | closed by |\n|---|---|\n| one | `alpha` |\n",
+    PROVING: "# Proving\n\n`Need-returns-2` of `c .before .f .ensures`; `rt dev alpha`, `tools/check-docs --all`.\n",
     TIMES: """# Times
 
 | crate | functions | seconds | memory, MB | must-fail edits |

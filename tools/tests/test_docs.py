@@ -1,5 +1,5 @@
 """What tools/check-docs refuses of the rules, the check times and what the pages quote, on a small repository."""
-from tests.docs_tree import RULES, PROMISES, DECISIONS, TIMES, EVIDENCE, FILES, DocsTest
+from tests.docs_tree import RULES, PROMISES, DECISIONS, TIMES, EVIDENCE, PROVING, FILES, DocsTest
 
 
 class Right(DocsTest):
@@ -63,7 +63,7 @@ class Quotes(DocsTest):
 
     def assertQuote(self, quoted, words):
         """A quoted thing is refused in each page."""
-        for page in (DECISIONS, EVIDENCE, PROMISES, "README.md", RULES, TIMES):
+        for page in (DECISIONS, EVIDENCE, PROMISES, PROVING, "README.md", RULES, TIMES):
             with self.subTest(page):
                 self.files = dict(FILES)
                 self.files[page] += f"\nSee {quoted} there.\n"
@@ -94,6 +94,12 @@ class Quotes(DocsTest):
         self.assertQuote("`beta: one`", "crate beta has no one")
         self.assertQuote("`threeOf`", "`threeOf` names nothing")
         self.assertQuote("`crates/alpha/specs/One.antt: ghostOf`", "no ghostOf in crates/alpha/specs/One.antt")
+
+    def test_commands_that_are_none(self):
+        self.assertQuote("`rt dev beta`", "`rt dev beta` is no command")
+        self.assertQuote("`rt do alpha`", "`rt do alpha` is no command")
+        self.assertQuote("`tools/none --all`", "there is no tools/none")
+        self.assertQuote("`tools/check-docs --none`", "tools/check-docs has no --none")
 
     def test_a_quote_that_is_not_closed(self):
         self.assertQuote("`alpha", "a quote that is not closed")
