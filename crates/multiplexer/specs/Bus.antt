@@ -10,7 +10,7 @@ use Rattle.control.specs.declared.bits.Control.{Control}
 use Rattle.control.specs.Names.{r0Of, r1Of, tyOf}
 use Rattle.control.specs.Write.{controlWriteOf}
 use Rattle.multiplexer.specs.Cells.{sideOf, cellOf, noCell, routedOf}
-use Rattle.multiplexer.specs.declared.cells.Cell.{Cell}
+use Rattle.multiplexer.specs.declared.cells.MemoryCell.{MemoryCell}
 use Rattle.multiplexer.specs.declared.bus.Cycle.{Cycle}
 
 -- RAM is the lower half; with TY set it goes on up to $FEFF
@@ -45,7 +45,7 @@ unfoldable pub isBarredOf : Control → Bool
 isBarredOf c = tyOf c && (r1Of c || r0Of c)
 
 -- the cell of a RAM cycle, and zeros for any other
-unfoldable pub ramCellOf : Control → ℕ → Cell
+unfoldable pub ramCellOf : Control → ℕ → MemoryCell
 ramCellOf c a = if isRamOf c a then cellOf (sideOf c) (routedOf c a) else noCell
 
 -- the flags of a cycle: 1 for RAM, 2 for a barred pair, 4 for a control write

@@ -1,5 +1,5 @@
 // One bus cycle: what it selects, how long it lasts, and the cell that it reaches.
-use crate::cells::Cell;
+use crate::cells::MemoryCell;
 use crate::cells::cell_at;
 use crate::cells::no_cell;
 use crate::cells::routed;
@@ -16,7 +16,7 @@ pub struct Cycle {
     pub select: u8,
     pub ticks: u8,
     pub flags: u8,
-    pub cell: Cell,
+    pub cell: MemoryCell,
 }
 
 // Whether the address is RAM.
@@ -79,7 +79,7 @@ fn is_barred(control: Control) -> bool
 }
 
 // The cell of a RAM cycle.
-fn ram_cell(control: Control, address: u16) -> Cell
+fn ram_cell(control: Control, address: u16) -> MemoryCell
     ensures { λ r. ⌜ r ≡ ramCellOf control address ⌝ }
 {
     if is_ram(control, address) {

@@ -5,7 +5,7 @@ ghost use Rattle.multiplexer.specs.private.Side.{Side};
 ghost use Rattle.multiplexer.specs.Cells.{sideOf, noCell, cellOf, routedOf};
 
 // A place in the memory chips.
-pub struct Cell {
+pub struct MemoryCell {
     pub bank: u8,
     pub row: u8,
     pub column: u8,
@@ -25,11 +25,11 @@ fn side(control: Control) -> u16
 }
 
 // The cell of a 16-bit address, for the memory size in force.
-pub(crate) fn cell_at(control: Control, address: u16) -> Cell
+pub(crate) fn cell_at(control: Control, address: u16) -> MemoryCell
     ensures { λ r. ⌜ r ≡ cellOf (sideOf control) address ⌝ }
 {
     let side = side(control);
-    Cell {
+    MemoryCell {
         bank: (address / side / side % 2) as u8,
         row: (address % side) as u8,
         column: (address / side % side) as u8,
@@ -37,10 +37,10 @@ pub(crate) fn cell_at(control: Control, address: u16) -> Cell
 }
 
 // What stands for the cell of a cycle that is not for RAM.
-pub(crate) fn no_cell() -> Cell
+pub(crate) fn no_cell() -> MemoryCell
     ensures { λ r. ⌜ r ≡ noCell ⌝ }
 {
-    Cell {
+    MemoryCell {
         bank: 0,
         row: 0,
         column: 0,

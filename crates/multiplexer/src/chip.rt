@@ -1,7 +1,7 @@
 // The whole multiplexer: its state, and what each of its records does to it.
 use crate::bus::Cycle;
 use crate::bus::judged;
-use crate::cells::Cell;
+use crate::cells::MemoryCell;
 use crate::cells::cell_at;
 use crate::edge::edge_between;
 use crate::edge::mode_in_force;
@@ -30,7 +30,7 @@ pub struct Bused {
 pub struct Shown {
     pub high: u8,
     pub low: u8,
-    pub cell: Cell,
+    pub cell: MemoryCell,
     pub access: bool,
 }
 

@@ -6,7 +6,7 @@ mod edge;
 mod refresh;
 
 pub use bus::Cycle;
-pub use cells::Cell;
+pub use cells::MemoryCell;
 pub use chip::Bused;
 pub use chip::Levelled;
 pub use chip::Multiplexer;
