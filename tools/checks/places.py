@@ -9,8 +9,7 @@ from checks.grounds import Grounds
 PRIVATE = "private/"
 # The crates whose definitions are not yet sorted. To turn the check on for one, take it out here.
 UNSORTED = {
-    "basics", "raster", "facts", "clocks", "controller", "frames", "locator", "demand", "record", "answer", "text", "bodies", "bench",
-    "replay", "lister", "settled", "exports",
+    "basics", "record", "answer", "text", "bodies", "bench", "replay", "lister",
 }
 
 

@@ -18,7 +18,7 @@ use Rattle.raster.specs.declared.scan.Scan.{Scan}
 use Rattle.raster.specs.declared.sync.Sync.{Sync}
 use Rattle.clocks.specs.declared.place.Place.{Place}
 use Rattle.clocks.specs.Walk.{steppedOf}
-use Rattle.clocks.specs.Skip.{Clear, hsyncColumns, atColumn, columnsOn}
+use Rattle.clocks.specs.private.Skip.{Clear, hsyncColumns, atColumn, columnsOn}
 
 module _ (r : Registers) (c h : ℕ) where
   -- its closed form: R2 behind, R2 still ahead, R2 passed

@@ -19,7 +19,7 @@ use Rattle.raster.specs.declared.registers.Registers.{Registers}
 use Rattle.raster.specs.declared.scan.Scan.{Scan}
 use Rattle.clocks.specs.declared.place.Place.{Place}
 use Rattle.clocks.specs.Walk.{steppedOf}
-use Rattle.clocks.specs.Skip.{Clear, Whole, hsyncColumns, hsyncLines, atColumn, atLine, columnsOn, linesOn}
+use Rattle.clocks.specs.private.Skip.{Clear, Whole, hsyncColumns, hsyncLines, atColumn, atLine, columnsOn, linesOn}
 use Rattle.clocks.proofs.Columns.{ahead, passed, placed, stepped, columns-at-once}
 
 -- HSYNC's closed form: no line, R2 past the line's end, R2 at its first column, R2 at another

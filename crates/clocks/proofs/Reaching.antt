@@ -10,7 +10,7 @@ use Rattle.clocks.specs.declared.place.Place.{Place}
 use Rattle.clocks.specs.declared.place.Walk.{Walk}
 use Rattle.clocks.specs.declared.skip.Skip.{Skip}
 use Rattle.clocks.specs.Walk.{steppedOf, onFrom, walkOf}
-use Rattle.clocks.specs.Skip.{Clear, LineTimes, Whole, Reached, columnsOn, linesOn}
+use Rattle.clocks.specs.private.Skip.{Clear, LineTimes, Whole, Reached, columnsOn, linesOn}
 use Rattle.clocks.proofs.Walking.{walk-place}
 use Rattle.clocks.proofs.Columns.{columns-at-once}
 use Rattle.clocks.proofs.Lines.{lines-at-once}

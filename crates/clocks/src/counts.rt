@@ -1,7 +1,7 @@
 // How far a counter can count on, and counts that stop at 0.
 ghost use mathlib.Core.Path.{_≡_};
 ghost use Prim.Native.Nat.{_+_, _*_, _-_, _≤_};
-ghost use Rattle.clocks.specs.Skip.{Clear, LineTimes};
+ghost use Rattle.clocks.specs.private.Skip.{Clear, LineTimes};
 
 // A count x, fallen y times.
 pub(crate) fn less(x: u8, y: u8) -> u8

@@ -1,7 +1,7 @@
 // Character times passed without a step each: the columns of a line, and whole lines of a row.
 ghost use mathlib.Core.Path.{_≡_};
 ghost use Prim.Native.Nat.{_+_, _<_};
-ghost use Rattle.clocks.specs.Skip.{Whole, Reached, hsyncColumns, hsyncLines, columnsOn, linesOn};
+ghost use Rattle.clocks.specs.private.Skip.{Whole, Reached, hsyncColumns, hsyncLines, columnsOn, linesOn};
 use crate::counts::clear;
 use crate::counts::less;
 use crate::counts::less_lines;

@@ -6,7 +6,8 @@ use Rattle.basics.specs.Iterate.{iterate}
 use Rattle.clocks.specs.declared.place.Place.{Place}
 use Rattle.clocks.specs.declared.place.Walk.{Walk}
 use Rattle.clocks.specs.Walk.{steppedOf, walkOf}
-use Rattle.controller.specs.Chip.{stepOf, clockOf, placeOf, walkedOf}
+use Rattle.controller.specs.Chip.{stepOf, clockOf}
+use Rattle.controller.specs.private.Walked.{placeOf, walkedOf}
 use Rattle.controller.specs.declared.chip.Controller.{Controller}
 
 pub by-walk : (c : Controller) (m : ℕ) → clockOf (suc m) c ≡ walkedOf c (walkOf (c .regs) (suc m) (placeOf c))

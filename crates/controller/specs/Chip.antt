@@ -9,10 +9,7 @@ use Rattle.raster.specs.Sync.{arriveOf}
 use Rattle.facts.specs.Facts.{factsOf}
 use Rattle.raster.specs.declared.registers.Registers.{Registers}
 use Rattle.facts.specs.declared.facts.Facts.{Facts}
-use Rattle.raster.specs.declared.scan.Scan.{Scan}
 use Rattle.raster.specs.declared.sync.Sync.{Sync}
-use Rattle.clocks.specs.declared.place.Place.{Place}
-use Rattle.clocks.specs.declared.place.Walk.{Walk}
 use Rattle.pen.specs.Pen.{noPen, strikeAt, struckOf}
 use Rattle.controller.specs.Writes.{writtenOf}
 use Rattle.pen.specs.declared.pen.Pen.{Pen}
@@ -75,17 +72,3 @@ withPen pen c = record { regs = c .regs; scan = c .scan; sync = c .sync; left = 
 -- a strike at the character that the scan is at
 unfoldable pub strikeOf : Controller → Controller
 strikeOf c = withPen (struckOf (c .pen) (strikeAt (c .regs) (c .scan))) c
-
--- the part of the controller that walks: its scan and its syncs
-abbrev pub placeOf : Controller → Place
-placeOf c = record { scan = c .scan; sync = c .sync }
-
--- the controller after a walk: where it came to, and the facts of the place that it left last
-unfoldable pub walkedOf : Controller → Walk → Controller
-walkedOf c w = record {
-  regs = c .regs;
-  scan = w .place .scan;
-  sync = w .place .sync;
-  left = factsOf (c .regs) (w .from);
-  pen = c .pen;
-}

@@ -3,3 +3,4 @@ pub mod Chip
 pub mod Pins
 pub mod Reads
 pub mod Widths
+pub mod private

@@ -1,6 +1,7 @@
 // The controller: power-on, reset, writes, character times and pen strikes.
 ghost use mathlib.Core.Path.{_≡_};
-ghost use Rattle.controller.specs.Chip.{arrivedOf, freshOf, resetOf, writeOf, clockOf, strikeOf, placeOf, walkedOf};
+ghost use Rattle.controller.specs.Chip.{arrivedOf, freshOf, resetOf, writeOf, clockOf, strikeOf};
+ghost use Rattle.controller.specs.private.Walked.{placeOf, walkedOf};
 use crate::writes::written;
 use clocks::Place;
 use clocks::Walk;

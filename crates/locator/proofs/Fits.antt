@@ -17,7 +17,8 @@ use Rattle.basics.specs.Bits.{wordOf, highOf, lowOf}
 use Rattle.raster.specs.Registers.{startOf, rowBaseOf, byRowsOf}
 use Rattle.raster.specs.declared.registers.Registers.{Registers}
 use Rattle.facts.proofs.Addresses.{latch-by-base, latch-by-rows}
-use Rattle.locator.specs.Cells.{cellAt, rowCells, cellsFrom, cellPlaceOf, cellLatchOf, fitsOf, keep, theFit, joinedOf, partFitOf, rowFitOf, fromBaseOf, fromLowOf}
+use Rattle.locator.specs.Cells.{cellAt, rowCells, cellsFrom, cellPlaceOf, cellLatchOf, fitsOf, keep, theFit}
+use Rattle.locator.specs.private.Search.{joinedOf, partFitOf, rowFitOf, fromBaseOf, fromLowOf}
 use Rattle.locator.specs.declared.cells.Cell.{Cell}
 use Rattle.locator.specs.declared.fit.Fit.the-variants.{Free}
 

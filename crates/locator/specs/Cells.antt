@@ -1,5 +1,5 @@
 -- The picture's cells, and which of them a latch fits (document 01, "The locator"). Cells are a list, row by row; nothing here searches.
-use Prim.Native.Nat.{ℕ, zero, suc, _+_, _-_, _%_, _<_, _≤_, min}
+use Prim.Native.Nat.{ℕ, zero, suc, _+_, _<_, _≤_, min}
 use mathlib.Core.Bool.{Bool, false}
 use mathlib.Core.List.{List, [], _∷_, _++_, map}
 use lib.Dec.{eqb}
@@ -76,30 +76,6 @@ theFit [] = Free
 theFit (c ∷ []) = One c
 theFit (c ∷ d ∷ l) = Many
 
--- of two lists one after the other, by the answers for each
-unfoldable pub joinedOf : Fit → Fit → Fit
-joinedOf Free b = b
-joinedOf (One c) Free = One c
-joinedOf (One c) (One d) = Many
-joinedOf (One c) Many = Many
-joinedOf Many b = Many
-
 -- which of the picture's cells fit a latch
 unfoldable pub fitOf : Registers → ℕ → Fit
 fitOf r latch = theFit (keep (fitsOf r latch) (cellsOf r))
-
--- which of n cells of a row do, from a column on
-unfoldable pub partFitOf : Registers → ℕ → (row column n : ℕ) → Fit
-partFitOf r latch row column n = theFit (keep (fitsOf r latch) (map (cellAt row) (count column n)))
-
--- which of a row's cells do
-unfoldable pub rowFitOf : Registers → ℕ → ℕ → Fit
-rowFitOf r latch row = partFitOf r latch row 0 (columnsOf r)
-
--- the column at which a row reaches a latch, by counting on from its base
-abbrev pub fromBaseOf : ℕ → ℕ → ℕ
-fromBaseOf base latch = (latch + 32766 - base % 16384) % 16384
-
--- the same where the column moves the low byte alone
-abbrev pub fromLowOf : ℕ → ℕ → ℕ
-fromLowOf start latch = (latch + 510 - start % 256) % 256

@@ -1,2 +1,3 @@
 pub mod Cells
 pub mod Locate
+pub mod private

@@ -5,7 +5,8 @@ use lib.Dec.{eqb}
 use borrow.Author.Tests.{eq-eqb, ne-eqb}
 use Rattle.basics.specs.Choice.{if_then_else_}
 use Rattle.raster.specs.Registers.{reg}
-use Rattle.raster.specs.Scan.{Move, along, newFrameOf, rowOf, downOf, alongOf, movedOf, lineEndOf, moveOf, nextOf, endsFrameOf}
+use Rattle.raster.specs.Scan.{Move, along, newFrameOf, rowOf, downOf, alongOf, movedOf, lineEndOf, moveOf, nextOf}
+use Rattle.raster.specs.private.Outcomes.{endsFrameOf}
 use Rattle.raster.specs.declared.registers.Registers.{Registers}
 use Rattle.raster.specs.declared.scan.Scan.{Scan}
 use Rattle.raster.proofs.LineEnds.{LineEnd, line-down, row-down, to-adjust, to-frame, adjust-down, adjust-frame, line-end}

@@ -2,3 +2,4 @@ pub mod Registers
 pub mod Scan
 pub mod Sync
 pub mod Widths
+pub mod private

@@ -94,7 +94,3 @@ movedOf r s newFrame = newFrameOf r s
 -- one character time
 unfoldable pub nextOf : Registers → Scan → Scan
 nextOf r s = movedOf r s (moveOf r s)
-
--- whether a line's end is the frame's: among the adjust lines by their count, elsewhere as told
-unfoldable pub endsFrameOf : Registers → Scan → Bool → Bool
-endsFrameOf r s told = if s .adjusting then eqb (countedOf Five (s .line) 1) (reg r 5) else told

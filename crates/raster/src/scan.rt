@@ -1,7 +1,8 @@
 // Where the scan is, and one character time.
 ghost use mathlib.Core.Path.{_≡_};
 ghost use Rattle.basics.specs.Width.{countedOf};
-ghost use Rattle.raster.specs.Scan.{topOf, newFrameOf, alongOf, downOf, rowOf, lineEndOf, movedOf, nextOf, endsFrameOf};
+ghost use Rattle.raster.specs.Scan.{topOf, newFrameOf, alongOf, downOf, rowOf, lineEndOf, movedOf, nextOf};
+ghost use Rattle.raster.specs.private.Outcomes.{endsFrameOf};
 use crate::registers::Registers;
 use basics::Width;
 use std::num::wrapping_add_u8;

@@ -1,7 +1,8 @@
 use mathlib.Core.Path.{sym, _∙_}
 use native.Mathlib.Omega.{arith}
 use borrow.Author.Needs.{needs}
-use Rattle.locator.specs.Cells.{fitsOf, partFitOf}
+use Rattle.locator.specs.Cells.{fitsOf}
+use Rattle.locator.specs.private.Search.{partFitOf}
 use Rattle.locator.proofs.Fits.{only-inside, only-outside}
 use Rattle.locator.proofs.fit.front_fit.Statement.{statement}
 use Rattle.locator.proofs.fit.front_fit.Tie as tie

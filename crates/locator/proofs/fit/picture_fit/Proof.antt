@@ -3,7 +3,8 @@ use Prim.Native.Nat.{ℕ, _≤_, _-_}
 use mathlib.Core.Path.{_≡_, refl, ap, ap₂, sym, _∙_}
 use native.Mathlib.Omega.{arith}
 use borrow.Author.Needs.{needs}
-use Rattle.locator.specs.Cells.{rowsOf, cellsFrom, fitsOf, keep, theFit, joinedOf, fitOf}
+use Rattle.locator.specs.Cells.{rowsOf, cellsFrom, fitsOf, keep, theFit, fitOf}
+use Rattle.locator.specs.private.Search.{joinedOf}
 use Rattle.locator.proofs.Fits.{rows-more}
 use Rattle.locator.proofs.fit.picture_fit.Statement.{statement}
 use Rattle.locator.proofs.fit.picture_fit.Tie as tie

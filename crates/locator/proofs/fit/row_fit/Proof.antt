@@ -1,5 +1,5 @@
 use borrow.Author.Needs.{needs}
-use Rattle.locator.specs.Cells.{rowFitOf}
+use Rattle.locator.specs.private.Search.{rowFitOf}
 use Rattle.locator.proofs.fit.row_fit.Statement.{statement}
 use Rattle.locator.proofs.fit.row_fit.Tie as tie
 

@@ -1,4 +1,4 @@
-use Rattle.clocks.specs.Skip.{columnsOn}
+use Rattle.clocks.specs.private.Skip.{columnsOn}
 use borrow.Author.Needs.{needs}
 use Rattle.clocks.proofs.place.Place.columns_on.Statement.{statement}
 use Rattle.clocks.proofs.place.Place.columns_on.Tie as tie

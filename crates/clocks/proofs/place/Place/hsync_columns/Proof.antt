@@ -1,4 +1,4 @@
-use Rattle.clocks.specs.Skip.{hsyncColumns}
+use Rattle.clocks.specs.private.Skip.{hsyncColumns}
 use Rattle.basics.proofs.Cases.{cases}
 use borrow.Author.Needs.{needs}
 use Rattle.clocks.proofs.place.Place.hsync_columns.Statement.{statement}

@@ -1,4 +1,4 @@
-use Rattle.clocks.specs.Skip.{hsyncLines}
+use Rattle.clocks.specs.private.Skip.{hsyncLines}
 use Rattle.clocks.proofs.Lines.{less-one}
 use Rattle.basics.proofs.Cases.{cases}
 use borrow.Author.Needs.{needs}

@@ -1,4 +1,4 @@
-use Rattle.clocks.specs.Skip.{linesOn}
+use Rattle.clocks.specs.private.Skip.{linesOn}
 use borrow.Author.Needs.{needs}
 use Rattle.clocks.proofs.place.Place.lines_on.Statement.{statement}
 use Rattle.clocks.proofs.place.Place.lines_on.Tie as tie

@@ -1,4 +1,4 @@
-use Rattle.controller.specs.Chip.{walkedOf}
+use Rattle.controller.specs.private.Walked.{walkedOf}
 use borrow.Author.Needs.{needs}
 use Rattle.controller.proofs.chip.Controller.walked.Statement.{statement}
 use Rattle.controller.proofs.chip.Controller.walked.Tie as tie

@@ -1,4 +1,4 @@
-use Rattle.locator.specs.Cells.{joinedOf}
+use Rattle.locator.specs.private.Search.{joinedOf}
 use borrow.Author.Needs.{needs}
 use Rattle.locator.proofs.fit.Fit.join.Statement.{statement}
 use Rattle.locator.proofs.fit.Fit.join.Tie as tie

@@ -1,4 +1,4 @@
-use Rattle.raster.specs.Scan.{endsFrameOf}
+use Rattle.raster.specs.private.Outcomes.{endsFrameOf}
 use Rattle.basics.proofs.Cases.{cases}
 use borrow.Author.Needs.{needs}
 use Rattle.raster.proofs.scan.Scan.ends_frame.Statement.{statement}
