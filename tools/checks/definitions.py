@@ -4,7 +4,9 @@ import re
 
 from checks import antt
 
-MARKS = ("pub", "abbrev", "unfoldable")
+MARKED = re.compile(r"(?:(?:pub|abbrev|unfoldable) )*")
+NAMED = re.compile(rf"(?:record|data) ({antt.NAME})|({antt.NAME})(?: \{{[^}}]*\}})? : ")
+BLOCK = re.compile(r"module |mutual\b")
 OWN = re.compile(r"Rattle·(\w+?)(?:·specs\.specs|\.specs)\.(.+)")
 DECLARED = re.compile(r"declared\.(?:[\w.]+\.)?(\w+?)(?:\.the-variants)?")
 
@@ -19,7 +21,7 @@ class Definition:
     name: str
     text: str = dataclasses.field(default="", compare=False)
     comment: str = dataclasses.field(default="", compare=False)
-    also: tuple = dataclasses.field(default=(), compare=False)  # a data type's constructors
+    also: tuple = dataclasses.field(default=(), compare=False)  # a data type's constructors, a block's other names
 
     def __str__(self):
         return f"{self.crate}: {self.name}"
@@ -35,13 +37,8 @@ class CodeType:
 
 def name_of(item):
     """The name that an item at the edge of a line declares, or nothing where it is something else: a clause, a `use` line, a fixity."""
-    words = item.text.split(" ")
-    marked = words[0] in MARKS
-    while words and words[0] in MARKS:
-        words.pop(0)
-    if words[:1] in (["record"], ["data"]) and len(words) > 1:
-        return re.match(antt.NAME, words[1]).group()
-    return words[0] if marked and words[0] not in antt.RESERVED and words[1:2] == [":"] else ""
+    match = NAMED.match(item.text, MARKED.match(item.text).end())
+    return match.group(1) or match.group(2) if match else ""
 
 
 def comment_above(lines, number):
@@ -62,7 +59,7 @@ def read_file(crate, file, text):
             uses += antt.uses_of(item)
         elif re.match(r"infix[lr]? ", item.text):
             begun = item.line  # a fixity stands above its definition, below the comment
-        elif name_of(item):
+        elif name_of(item) or BLOCK.match(item.text):
             found.append((begun or item.line, name_of(item)))
             begun = None
     ends = [line for line, _ in found[1:]] + [len(lines) + 1]
@@ -70,12 +67,13 @@ def read_file(crate, file, text):
 
 
 def cut_out(crate, file, lines, bare, line, name, end):
-    """A definition from its first line to the next definition's, without the comment above that."""
+    """A definition from its first line to the next definition's, without the comment above that. A block of several counts as one."""
     while end > line and not bare[end - 2].strip():
         end -= 1
     block = "\n".join(bare[line - 1 : end - 1])
-    also = tuple(sorted(antt.declared_in(block) - {name})) if re.search(r"^(?:pub )?data ", block, re.M) else ()
-    return Definition(crate, file, line, name, "\n".join(lines[line - 1 : end - 1]), comment_above(lines, line), also)
+    names = antt.declared_in(block) if not name or re.search(r"^(?:pub )?data ", block, re.M) else {name}
+    name = name or min(names, key=block.find, default="_")
+    return Definition(crate, file, line, name, "\n".join(lines[line - 1 : end - 1]), comment_above(lines, line), tuple(sorted(names - {name})))
 
 
 def words_in(text):

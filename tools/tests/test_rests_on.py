@@ -132,6 +132,11 @@ class RestsOn(GroundsTest):
         self.assertEqual(one.text.split("\n")[0], "infixr 5 if_then_else_")
         self.assertTrue(one.text.endswith("if false then x else y = y"))
 
+    def test_names_without_a_mark_with_a_level_and_in_a_block(self):
+        self.edit(HIGH, "highOf x = if x then low x else 0", "highOf x = plain (inner x)\n\nplain {ℓ} : ℕ → ℕ\nplain x = low x\n\n"
+                  "-- both\nmodule _ (y : ℕ) where\n  outer : ℕ\n  outer = 0\n\n  inner : ℕ → ℕ\n  inner x = if x then y else 0")
+        self.assertEqual(self.below("beta: highOf")[0], [IF, "beta: lowOf", "beta: highOf", "beta: plain", "beta: outer"])
+
     def test_names_that_are_none(self):
         for name in ("low-given", "beta::small", "beta: none", "gamma: one", "highOf"):
             with self.subTest(name), self.assertRaises(Unknown):
