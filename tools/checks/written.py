@@ -1,20 +1,23 @@
 """crates/answers/proofs/OneAnswer.antt, written anew from the signatures: what can be worked out is, and other proofs are kept."""
 from checks import antt, contracts, fixed
+from checks.definitions import stands_in, words_in
 from checks.laws import BINDERS, CLAIM, fits
 
 LIB = "crates/answers/specs/Lib.antt"
+# What the laws are made of: their types, and the proofs that are written here.
+PARTS = contracts.PARTS | {
+    "one-answer": ("Rattle.basics.proofs.Alike", "one-answer"), "_and_": ("Rattle.answers.proofs.Alike", "_and_"),
+}
 
 
-def use_lines(uses, wanted):
-    """The `use` lines: those of single names as they are, with what the laws need besides, and then each function's contract."""
-    brought = {}
-    for use in uses:
-        if use.item:
+def use_lines(uses, wanted, laws):
+    """The `use` lines: those of single names that the laws need, and then each function's contract."""
+    words, brought = words_in("\n".join(laws)), {}
+    single = [use for use in uses if use.item and use.name not in PARTS]
+    single += [antt.Use(0, *PARTS[name], name) for name in PARTS]
+    for use in single:
+        if stands_in(use.name, words):
             brought.setdefault(use.module, []).append(use.item if use.item == use.name else f"{use.item} as {use.name}")
-    for name in contracts.needed_parts(wanted):
-        module, item = contracts.PARTS[name]
-        if name not in [use.name for use in uses]:
-            brought.setdefault(module, []).append(item)
     yield from (f"use {module}.{{{', '.join(items)}}}" for module, items in brought.items())
     yield from (f"use {law.module} as {law.alias}" for law in wanted)
 
@@ -36,7 +39,7 @@ def text_of(text, wanted):
     lines = text.split("\n")
     head = lines[: next((number for number, line in enumerate(lines) if not line.startswith("--")), len(lines))]
     laws = [line for law in wanted for line in law_lines(law, by_name.get(law.law))]
-    return "\n".join([*head, *use_lines(uses, wanted), *laws]) + "\n"
+    return "\n".join([*head, *use_lines(uses, wanted, laws), *laws]) + "\n"
 
 
 def write(top):

@@ -120,14 +120,18 @@ class Written(ContractsTest):
         text = self.written()
         self.assertEqual(self.wrong(), [])
         self.assertIn("alpha-rest κs a x y s t p q = (by hand)\n", text)
-        self.assertTrue(text.startswith("-- One answer.\nuse denote.Ref.{now}\n"))
+        self.assertTrue(text.startswith("-- One answer.\nuse Rattle.answers.specs.OneAnswer.{OneAnswer, _beside_}\nuse denote.Ref.{now}\n"))
         self.assertEqual(list(written.write(self.top)), self.said)
         self.assertEqual((self.top / LAWS).read_text(), text)
 
     def test_laws_and_names_that_are_missing(self):
-        self.files[LAWS] = "-- One answer.\nuse Rattle.basics.proofs.Alike.{one-answer}\n"
+        self.files[LAWS] = "-- One answer.\nuse Rattle.answers.specs.OneAnswer.{OneOutcome, OneAnswer}\nuse old.Names.{no-more}\n"
         text = self.written()
-        self.assertEqual([line for line in self.wrong() if "alpha-rest" not in line], [])
+        self.assertEqual(self.wrong(), [])
+        for line in ("use Rattle.basics.proofs.Alike.{one-answer}", "use Rattle.answers.proofs.Alike.{_and_}"):
+            self.assertIn(line + "\n", text)
+        self.assertNotIn("OneOutcome", text)
+        self.assertNotIn("no-more", text)
         self.assertIn("alpha-rest = ?\n", text)
         self.assertEqual(self.said, [f"{LAWS}: 5 laws, 1 without a proof"])
 
