@@ -118,6 +118,20 @@ class Quotes(DocsTest):
         self.assertWrong("the list of tools lacks check-more")
 
 
+class Definitions(DocsTest):
+    """What a reader has to believe stands apart from what serves private contracts."""
+
+    LONE = "-- lone\nabbrev pub loneOf : ℕ\nloneOf = 0\n"
+
+    def test_a_private_one_among_the_others(self):
+        self.files["crates/alpha/specs/Two.antt"] = self.LONE
+        self.assertWrong("crates/alpha/specs/Two.antt:2: loneOf belongs in specs/private/")
+
+    def test_a_private_one_in_its_place(self):
+        self.files["crates/alpha/specs/private/Two.antt"] = self.LONE
+        self.assertRight()
+
+
 class Times(DocsTest):
     """CHECK-TIMES.md."""
 
