@@ -26,18 +26,21 @@ clock-requires-2 c κs = search needs
 
 add-t : tie.Need-add-t Inv-loop μ-loop
 add-t c =
-    let at = c .before .before .before .before in
-    omega (arith, before _ _ _ (at .loop .inv) (c .before .if1 .taken))
+    let test = c .before in
+    let turn = test .before .before .before in
+    omega (arith, before _ _ _ (turn .loop .inv) (test .if1 .taken))
 
 loop-less : tie.Need-loop-less Inv-loop μ-loop
 loop-less c =
-    let at = c .before .before .before .before in
-    omega (arith, before _ _ _ (at .loop .inv) (c .before .if1 .taken))
+    let test = c .before in
+    let turn = test .before .before .before in
+    omega (arith, before _ _ _ (turn .loop .inv) (test .if1 .taken))
 
 loop-again : tie.Need-loop-again Inv-loop μ-loop
 loop-again c =
-    let at = c .before .before .before .before in
-    counted-more _ _ _ (at .loop .inv) _ (c .before .if1 .taken) (c .clock2 .ensures)
+    let test = c .before in
+    let turn = test .before .before .before in
+    counted-more _ _ _ (turn .loop .inv) _ (test .if1 .taken) (c .clock2 .ensures)
 
 returns : tie.Need-returns Inv-loop μ-loop
 returns c =

@@ -6,7 +6,8 @@ use Rattle.multiplexer.specs.Bus.{flagsOf}
 use Rattle.multiplexer.proofs.bus.flags.Statement.{statement}
 use Rattle.multiplexer.proofs.bus.flags.Tie as tie
 
-bits : (c : tie.After-number3) → (c .before .before .before .before .number .result < 2) × (c .before .before .number2 .result < 2) × (c .number3 .result < 2)
+bits : (c : tie.After-number3) →
+    (let second = c .before .before in (second .before .before .number .result < 2) × (second .number2 .result < 2) × (c .number3 .result < 2))
 bits c =
     let second = c .before .before in
     let first = second .before .before in (

@@ -15,8 +15,9 @@ add-line c = search needs
 returns : tie.Need-returns
 unfolding linesOn
 returns c =
-    let there = c .before .before .before .before in
-    rw (there .less .ensures, there .before .hsync-lines .ensures)
+    let line = c .before .before .before in
+    let vsync = line .before in
+    rw (vsync .less .ensures, vsync .before .hsync-lines .ensures)
 
 pub lines-on-spec : {M : Type 1} → statement M
 lines-on-spec = tie.close (tie.spec hsync-lines-requires less-requires add-line returns)
