@@ -4,7 +4,7 @@ use mathlib.Core.Path.{_≡_, refl}
 use mathlib.Core.Bool.{Bool, true, false}
 use Rattle.basics.specs.Choice.{if_then_else_}
 use Rattle.multiplexer.specs.Chip.{freshOf}
-use Rattle.record.specs.Decode.{allowedOf, checkedOf, decodeOf}
+use Rattle.record.specs.Decode.{lookedUp, allowedOf, checkedOf, decodeOf}
 use Rattle.record.specs.declared.event.Event.{Event}
 use Rattle.bench.specs.Step.{withController, onClocks, onStrike, onEvent, onDecoded, stepOf}
 use Rattle.bench.specs.Alone.{toldOf, aloneOf, AsOnTheBench}
@@ -26,7 +26,7 @@ module _ (b : Bench) where
   same false kind e h = refl
 
   pub as-on-the-bench : (hi lo value : ℕ) → AsOnTheBench b hi lo value
-  unfolding aloneOf stepOf decodeOf if_then_else_ onEvent onClocks onStrike back
+  unfolding aloneOf stepOf decodeOf allowedOf lookedUp if_then_else_ onEvent onClocks onStrike back
   as-on-the-bench hi lo value =
       record {
         write = same (allowedOf 1 hi lo value) 1 _ refl;
