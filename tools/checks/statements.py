@@ -19,7 +19,7 @@ SUMS = {
     "crates/frames/specs/Frames.antt": "47505aa6cb286671",
     "crates/frames/specs/Widths.antt": "f002353a9b03b442",
     "crates/record/specs/Refusals.antt": "f8778b3921cb1f2d",
-    "crates/replay/specs/Laws.antt": "a2fa3224285f9ffe",
+    "crates/replay/specs/Laws.antt": "da658746cfe4cf39",
     "crates/replay/specs/Run.antt": "f3b1e23a934eee82",
     "crates/settled/specs/Cases.antt": "fd06aaf733152d0f",
     "crates/settled/specs/Premises.antt": "86d5fa27e6513db9",

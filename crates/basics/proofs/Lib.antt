@@ -2,6 +2,7 @@ pub mod Alike
 pub mod Cases
 pub mod Iterating
 pub mod Laying
+pub mod Parts
 pub mod Table
 pub mod Widths
 pub mod Words
