@@ -12,7 +12,7 @@ from checks import antt
 SUMS = {
     "crates/basics/specs/Lay.antt": "755429438186ecdb",
     "crates/bench/specs/Alone.antt": "0f54041a5da8d136",
-    "crates/bench/specs/Refusals.antt": "235387d299e3a0ae",
+    "crates/bench/specs/Refusals.antt": "bc8519126422d7eb",
     "crates/control/specs/Write.antt": "4533074153fd6436",
     "crates/demand/specs/Demand.antt": "1426ba7a71303cd2",
     "crates/frames/specs/Calls.antt": "f9246236986c1748",
