@@ -4,14 +4,15 @@ use mathlib.Core.Path.{_≡_, refl, sym, ap, _∙_}
 use mathlib.Core.Bool.{true, false}
 use Rattle.basics.specs.Choice.{if_then_else_}
 use Rattle.answer.specs.Answer.{plainOf}
+use Rattle.answer.specs.declared.Answer.{Answer}
 use Rattle.locator.specs.Locate.{refusalOf, locateOf}
 use Rattle.locator.specs.declared.answer.Located.{Located}
-use Rattle.locator.specs.declared.answer.Located.the-variants.{At, Unstruck, Outside, Nowhere, Several}
 use Rattle.record.specs.Decode.{decodeOf, numberOf}
 use Rattle.record.specs.declared.event.Event.the-variants.{Write, Read, Clocks, Strike, Reset, Cycle, Fetches, Levels, Locate}
 use Rattle.record.specs.declared.kinds.Decoded.{Decoded}
 use Rattle.record.specs.declared.kinds.Decoded.the-variants.{Known, Refused}
-use Rattle.bodies.specs.Bodies.{readAnswerOf, timeAnswerOf, strikeAnswerOf, busAnswerOf, shownAnswerOf, levelsAnswerOf, locatedAnswerOf}
+use Rattle.bodies.specs.Bodies.{locatedAnswerOf}
+use Rattle.bodies.proofs.Located.{located-refused}
 use Rattle.bench.specs.Step.{onRead, onClocks, onStrike, onReset, onCycle, onFetches, onLevels, onEvent, onDecoded, stepOf}
 use Rattle.bench.specs.Refusals.{eventRefusalOf, Refusals}
 use Rattle.bench.specs.declared.step.Bench.{Bench}
@@ -35,17 +36,12 @@ module _ (b : Bench) (kind : ℕ) where
   refused : (number : ℕ) → Due number (record { bench = b; answer = plainOf kind number })
   refused number = record { first = refl; told = refl; still = λ h. refl }
 
-  -- the locator's refusals have a zero body
   located : (l : Located) → Due (refusalOf l) (record { bench = b; answer = locatedAnswerOf kind l })
-  unfolding locatedAnswerOf
-  located (At cell) = done _ refl refl
-  located Unstruck = refused _
-  located Outside = refused _
-  located Nowhere = refused _
-  located Several = refused _
+  located l =
+      record { first = refl; told = refl; still = λ h. ap (λ (a : Answer). record { bench = b; answer = a }) (located-refused kind l h) }
 
   outcome : (d : Decoded) → Due (numberDue b d) (onDecoded b kind d)
-  unfolding onDecoded onEvent onRead onClocks onStrike onReset onCycle onFetches onLevels readAnswerOf timeAnswerOf strikeAnswerOf busAnswerOf shownAnswerOf levelsAnswerOf if_then_else_
+  unfolding onDecoded onEvent onRead onClocks onStrike onReset onCycle onFetches onLevels if_then_else_
   outcome (Refused r) = refused _
   outcome (Known (Write rs value)) = done _ refl refl
   outcome (Known (Read rs)) = done _ refl refl

@@ -3,7 +3,7 @@
 use Prim.Native.Nat.{ℕ}
 use mathlib.Core.Bool.{Bool}
 use Rattle.basics.specs.Choice.{if_then_else_}
-use Rattle.answer.specs.Answer.{plainOf}
+use Rattle.answer.specs.Answer.{doneOf, plainOf}
 use Rattle.answer.specs.declared.Answer.{Answer}
 use Rattle.controller.specs.Chip.{resetOf, writeOf, clockOf, strikeOf}
 use Rattle.controller.specs.Pins.{outputsOf}
@@ -17,7 +17,7 @@ use Rattle.record.specs.declared.event.Event.{Event}
 use Rattle.record.specs.declared.event.Event.the-variants.{Write, Read, Clocks, Strike, Reset, Cycle, Fetches, Levels, Locate}
 use Rattle.record.specs.declared.kinds.Decoded.{Decoded}
 use Rattle.record.specs.declared.kinds.Decoded.the-variants.{Known, Refused}
-use Rattle.bodies.specs.Bodies.{readAnswerOf, timeAnswerOf, strikeAnswerOf, busAnswerOf, shownAnswerOf, levelsAnswerOf, locatedAnswerOf}
+use Rattle.bodies.specs.Bodies.{readBodyOf, timeBodyOf, strikeBodyOf, busBodyOf, shownBodyOf, levelsBodyOf, locatedAnswerOf}
 use Rattle.bench.specs.declared.step.Bench.{Bench}
 use Rattle.bench.specs.declared.step.Stepped.{Stepped}
 
@@ -31,15 +31,15 @@ withMultiplexer b m a = record { bench = record { controller = b .controller; mu
 
 -- kind 2: the reading, and the controller after it
 unfoldable pub onRead : Bench → ℕ → Bool → Stepped
-onRead b kind rs = withController b (readOf (b .controller) rs .controller) (readAnswerOf kind (readOf (b .controller) rs))
+onRead b kind rs = withController b (readOf (b .controller) rs .controller) (doneOf kind (readBodyOf (readOf (b .controller) rs)))
 
 -- kind 3: the outputs of the character time reached. Decision: n of 0 is allowed and tells the outputs as they are.
 unfoldable pub onClocks : Bench → ℕ → ℕ → Stepped
-onClocks b kind n = withController b (clockOf n (b .controller)) (timeAnswerOf kind (outputsOf (clockOf n (b .controller))))
+onClocks b kind n = withController b (clockOf n (b .controller)) (doneOf kind (timeBodyOf (outputsOf (clockOf n (b .controller)))))
 
 -- kind 4: what the strike latched
 unfoldable pub onStrike : Bench → ℕ → Stepped
-onStrike b kind = withController b (strikeOf (b .controller)) (strikeAnswerOf kind (strikeOf (b .controller) .pen))
+onStrike b kind = withController b (strikeOf (b .controller)) (doneOf kind (strikeBodyOf (strikeOf (b .controller) .pen)))
 
 -- kind 5: the one chip or the other
 unfoldable pub onReset : Bench → ℕ → Bool → Stepped
@@ -50,17 +50,17 @@ onReset b kind multiplexer =
 -- kind 6: the cycle as it was judged, and the multiplexer after its write
 unfoldable pub onCycle : Bench → ℕ → ℕ → Bool → Stepped
 onCycle b kind address read =
-    withMultiplexer b (busOf (b .multiplexer) address read .multiplexer) (busAnswerOf kind (busOf (b .multiplexer) address read .cycle))
+    withMultiplexer b (busOf (b .multiplexer) address read .multiplexer) (doneOf kind (busBodyOf (busOf (b .multiplexer) address read .cycle)))
 
 -- kind 7: what the display shows after its fetches
 unfoldable pub onFetches : Bench → ℕ → ℕ → Stepped
 onFetches b kind n =
-    withMultiplexer b (fetchesOf (b .multiplexer) n) (shownAnswerOf kind (shownOf (fetchesOf (b .multiplexer) n)))
+    withMultiplexer b (fetchesOf (b .multiplexer) n) (doneOf kind (shownBodyOf (shownOf (fetchesOf (b .multiplexer) n))))
 
 -- kind 8: the edge that the levels made, and the refresh at it
 unfoldable pub onLevels : Bench → ℕ → Bool → Bool → Stepped
 onLevels b kind hs da0 =
-    withMultiplexer b (levelsOf (b .multiplexer) hs da0 .multiplexer) (levelsAnswerOf kind (levelsOf (b .multiplexer) hs da0))
+    withMultiplexer b (levelsOf (b .multiplexer) hs da0 .multiplexer) (doneOf kind (levelsBodyOf (levelsOf (b .multiplexer) hs da0)))
 
 -- a known event. Kinds 1 and 5 have a zero body; kind 9 asks, and moves neither chip.
 unfoldable pub onEvent : Bench → ℕ → Event → Stepped

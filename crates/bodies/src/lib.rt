@@ -1,6 +1,7 @@
 // What is answered: the body of each kind, from what its chip tells, and for kind 9 the locator's refusal too.
 ghost use mathlib.Core.Path.{_≡_};
-ghost use Rattle.bodies.specs.Bodies.{readAnswerOf, flagsOf, timeAnswerOf, strikeAnswerOf, busAnswerOf, shownAnswerOf, levelsAnswerOf, locatedAnswerOf};
+ghost use Rattle.answer.specs.Answer.{doneOf};
+ghost use Rattle.bodies.specs.Bodies.{readBodyOf, flagsOf, timeBodyOf, strikeBodyOf, busBodyOf, shownBodyOf, levelsBodyOf, locatedAnswerOf};
 use answer::Answer;
 use basics::flag;
 use basics::high;
@@ -15,7 +16,7 @@ use multiplexer::Levelled;
 use multiplexer::Shown;
 
 pub fn read_answer(kind: u8, r: Reading) -> Answer
-    ensures { λ a. ⌜ a ≡ readAnswerOf kind r ⌝ }
+    ensures { λ a. ⌜ a ≡ doneOf kind (readBodyOf r) ⌝ }
 {
     Answer::done(kind, number(r.driven), r.value, 0, 0, 0, 0)
 }
@@ -32,13 +33,13 @@ fn flags(o: Outputs) -> u8
 }
 
 pub fn time_answer(kind: u8, o: Outputs) -> Answer
-    ensures { λ a. ⌜ a ≡ timeAnswerOf kind o ⌝ }
+    ensures { λ a. ⌜ a ≡ doneOf kind (timeBodyOf o) ⌝ }
 {
     Answer::done(kind, high(o.ma), low(o.ma), o.ra, flags(o), 0, 0)
 }
 
 pub fn strike_answer(kind: u8, pen: Pen) -> Answer
-    ensures { λ a. ⌜ a ≡ strikeAnswerOf kind pen ⌝ }
+    ensures { λ a. ⌜ a ≡ doneOf kind (strikeBodyOf pen) ⌝ }
 {
     Answer::done(
         kind,
@@ -52,7 +53,7 @@ pub fn strike_answer(kind: u8, pen: Pen) -> Answer
 }
 
 pub fn bus_answer(kind: u8, c: Cycle) -> Answer
-    ensures { λ a. ⌜ a ≡ busAnswerOf kind c ⌝ }
+    ensures { λ a. ⌜ a ≡ doneOf kind (busBodyOf c) ⌝ }
 {
     Answer::done(
         kind,
@@ -66,7 +67,7 @@ pub fn bus_answer(kind: u8, c: Cycle) -> Answer
 }
 
 pub fn shown_answer(kind: u8, s: Shown) -> Answer
-    ensures { λ a. ⌜ a ≡ shownAnswerOf kind s ⌝ }
+    ensures { λ a. ⌜ a ≡ doneOf kind (shownBodyOf s) ⌝ }
 {
     Answer::done(
         kind,
@@ -80,7 +81,7 @@ pub fn shown_answer(kind: u8, s: Shown) -> Answer
 }
 
 pub fn levels_answer(kind: u8, l: Levelled) -> Answer
-    ensures { λ a. ⌜ a ≡ levelsAnswerOf kind l ⌝ }
+    ensures { λ a. ⌜ a ≡ doneOf kind (levelsBodyOf l) ⌝ }
 {
     Answer::done(kind, l.edge, l.first, l.count, 0, 0, 0)
 }

@@ -1,4 +1,4 @@
-use Rattle.bodies.specs.Bodies.{readAnswerOf}
+use Rattle.bodies.specs.Bodies.{readBodyOf}
 use borrow.Author.Needs.{needs}
 use Rattle.bodies.proofs.read_answer.Statement.{statement}
 use Rattle.bodies.proofs.read_answer.Tie as tie
@@ -10,7 +10,7 @@ done-requires : tie.Need-done-requires
 done-requires c κs = search needs
 
 returns : tie.Need-returns
-unfolding readAnswerOf
+unfolding readBodyOf
 returns c = rw (c .before .number .ensures) at (c .done .ensures)
 
 pub read-answer-spec : {M : Type 1} → statement M

@@ -1,4 +1,4 @@
-use Rattle.bodies.specs.Bodies.{strikeAnswerOf}
+use Rattle.bodies.specs.Bodies.{strikeBodyOf}
 use borrow.Author.Needs.{needs}
 use Rattle.bodies.proofs.strike_answer.Statement.{statement}
 use Rattle.bodies.proofs.strike_answer.Tie as tie
@@ -16,7 +16,7 @@ done-requires : tie.Need-done-requires
 done-requires c κs = search needs
 
 returns : tie.Need-returns
-unfolding strikeAnswerOf
+unfolding strikeBodyOf
 returns c = rw (c .before .number .ensures, c .before .before .low .ensures, c .before .before .before .high .ensures) at (c .done .ensures)
 
 pub strike-answer-spec : {M : Type 1} → statement M

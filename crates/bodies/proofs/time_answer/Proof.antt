@@ -1,4 +1,4 @@
-use Rattle.bodies.specs.Bodies.{timeAnswerOf}
+use Rattle.bodies.specs.Bodies.{timeBodyOf}
 use borrow.Author.Needs.{needs}
 use Rattle.bodies.proofs.time_answer.Statement.{statement}
 use Rattle.bodies.proofs.time_answer.Tie as tie
@@ -16,7 +16,7 @@ done-requires : tie.Need-done-requires
 done-requires c κs = search needs
 
 returns : tie.Need-returns
-unfolding timeAnswerOf
+unfolding timeBodyOf
 returns c = rw (c .before .flags .ensures, c .before .before .low .ensures, c .before .before .before .high .ensures) at (c .done .ensures)
 
 pub time-answer-spec : {M : Type 1} → statement M
