@@ -11,7 +11,7 @@ from checks import antt
 # By their paths: the first digits of the sum of all words outside comments.
 SUMS = {
     "crates/basics/specs/Lay.antt": "755429438186ecdb",
-    "crates/bench/specs/Alone.antt": "0f54041a5da8d136",
+    "crates/bench/specs/Alone.antt": "1b38a2bdf12bb138",
     "crates/bench/specs/Refusals.antt": "bc8519126422d7eb",
     "crates/control/specs/Write.antt": "4533074153fd6436",
     "crates/demand/specs/Demand.antt": "1426ba7a71303cd2",

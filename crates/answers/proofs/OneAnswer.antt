@@ -35,6 +35,7 @@ use Rattle.controller.proofs.chip.Controller.read.Reads as controller·read
 use Rattle.controller.proofs.chip.Controller.reset.Reads as controller·reset
 use Rattle.controller.proofs.chip.Controller.strike.Reads as controller·strike
 use Rattle.controller.proofs.chip.Controller.write.Reads as controller·write
+use Rattle.controller.proofs.pins.Outputs.bytes.Reads as controller·bytes
 use Rattle.locator.proofs.answer.Located.cell.Reads as locator·cell
 use Rattle.locator.proofs.answer.Located.refusal.Reads as locator·refusal
 use Rattle.locator.proofs.locate.Reads as locator·locate
@@ -67,19 +68,21 @@ use Rattle.record.proofs.kinds.Decoded.number.Reads as record·number
 use Rattle.answer.proofs.Answer.bytes.Reads as answer·bytes
 use Rattle.answer.proofs.Answer.done.Reads as answer·done
 use Rattle.answer.proofs.Answer.plain.Reads as answer·plain
+use Rattle.alone.proofs.clock.Reads as alone·clock
+use Rattle.alone.proofs.on_clocks.Reads as alone·on-clocks
+use Rattle.alone.proofs.on_read.Reads as alone·on-read
+use Rattle.alone.proofs.on_reset.Reads as alone·on-reset
+use Rattle.alone.proofs.on_strike.Reads as alone·on-strike
+use Rattle.alone.proofs.on_write.Reads as alone·on-write
+use Rattle.alone.proofs.strike.Reads as alone·strike
+use Rattle.alone.proofs.write.Reads as alone·write
 use Rattle.text.proofs.put_hex.Reads as text·put-hex
 use Rattle.text.proofs.said.Reads as text·said
 use Rattle.bodies.proofs.bus_answer.Reads as bodies·bus-answer
 use Rattle.bodies.proofs.levels_answer.Reads as bodies·levels-answer
 use Rattle.bodies.proofs.located_answer.Reads as bodies·located-answer
-use Rattle.bodies.proofs.read_answer.Reads as bodies·read-answer
 use Rattle.bodies.proofs.shown_answer.Reads as bodies·shown-answer
-use Rattle.bodies.proofs.strike_answer.Reads as bodies·strike-answer
-use Rattle.bodies.proofs.time_answer.Reads as bodies·time-answer
-use Rattle.bench.proofs.clock.Reads as bench·clock
 use Rattle.bench.proofs.step.Bench.step.Reads as bench·step
-use Rattle.bench.proofs.strike.Reads as bench·strike
-use Rattle.bench.proofs.write.Reads as bench·write
 use Rattle.replay.proofs.replay.Reads as replay·replay
 use Rattle.replay.proofs.unread_rest.Reads as replay·unread-rest
 use Rattle.lister.proofs.list.Reads as lister·list
@@ -177,6 +180,9 @@ controller-strike κs a x y s t p q = one-answer p q
 pub controller-write : OneAnswer controller·write.Post
 controller-write κs a x y s t p q = one-answer p q
 
+pub controller-bytes : OneAnswer controller·bytes.Post
+controller-bytes κs a x y s t p q = one-answer p q
+
 pub locator-cell : OneAnswer locator·cell.Post
 locator-cell κs a x y s t p q = one-answer p q
 
@@ -273,6 +279,30 @@ answer-done κs a x y s t p q = one-answer p q
 pub answer-plain : OneAnswer answer·plain.Post
 answer-plain κs a x y s t p q = one-answer p q
 
+pub alone-clock : OneAnswer alone·clock.Post
+alone-clock κs a x y s t p q = one-answer p q
+
+pub alone-on-clocks : OneAnswer alone·on-clocks.Post
+alone-on-clocks κs a x y s t p q = one-answer p q
+
+pub alone-on-read : OneAnswer alone·on-read.Post
+alone-on-read κs a x y s t p q = one-answer p q
+
+pub alone-on-reset : OneAnswer alone·on-reset.Post
+alone-on-reset κs a x y s t p q = one-answer p q
+
+pub alone-on-strike : OneAnswer alone·on-strike.Post
+alone-on-strike κs a x y s t p q = one-answer p q
+
+pub alone-on-write : OneAnswer alone·on-write.Post
+alone-on-write κs a x y s t p q = one-answer p q
+
+pub alone-strike : OneAnswer alone·strike.Post
+alone-strike κs a x y s t p q = one-answer p q
+
+pub alone-write : OneAnswer alone·write.Post
+alone-write κs a x y s t p q = one-answer p q
+
 pub text-put-hex : OneOutcome text·put-hex.Post (λ κs s. now (s .0) ∷ now (s .1 .1 .0) ∷ [])
 text-put-hex κs a x y s t p q = (one-answer (p .0) (q .0), one-answer (p .1 .0) (q .1 .0) then one-answer (p .1 .1) (q .1 .1) then refl)
 
@@ -288,29 +318,11 @@ bodies-levels-answer κs a x y s t p q = one-answer p q
 pub bodies-located-answer : OneAnswer bodies·located-answer.Post
 bodies-located-answer κs a x y s t p q = one-answer p q
 
-pub bodies-read-answer : OneAnswer bodies·read-answer.Post
-bodies-read-answer κs a x y s t p q = one-answer p q
-
 pub bodies-shown-answer : OneAnswer bodies·shown-answer.Post
 bodies-shown-answer κs a x y s t p q = one-answer p q
 
-pub bodies-strike-answer : OneAnswer bodies·strike-answer.Post
-bodies-strike-answer κs a x y s t p q = one-answer p q
-
-pub bodies-time-answer : OneAnswer bodies·time-answer.Post
-bodies-time-answer κs a x y s t p q = one-answer p q
-
-pub bench-clock : OneAnswer bench·clock.Post
-bench-clock κs a x y s t p q = one-answer p q
-
 pub bench-step : OneAnswer bench·step.Post
 bench-step κs a x y s t p q = one-answer p q
-
-pub bench-strike : OneAnswer bench·strike.Post
-bench-strike κs a x y s t p q = one-answer p q
-
-pub bench-write : OneAnswer bench·write.Post
-bench-write κs a x y s t p q = one-answer p q
 
 pub replay-replay : OneOutcome replay·replay.Post (λ κs s. now (s .1 .0) ∷ now (s .0) ∷ [])
 replay-replay κs a x y s t p q = (one-answer (p .0) (q .0), one-answer (p .1 .0) (q .1 .0) then one-answer (p .1 .1) (q .1 .1) then refl)

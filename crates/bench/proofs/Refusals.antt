@@ -13,7 +13,8 @@ use Rattle.record.specs.declared.kinds.Decoded.{Decoded}
 use Rattle.record.specs.declared.kinds.Decoded.the-variants.{Known, Refused}
 use Rattle.bodies.specs.Bodies.{locatedAnswerOf}
 use Rattle.bodies.proofs.Located.{located-refused}
-use Rattle.bench.specs.Step.{onRead, onClocks, onStrike, onReset, onCycle, onFetches, onLevels, onEvent, onDecoded, stepOf}
+use Rattle.alone.specs.Events as alone
+use Rattle.bench.specs.Step.{onReset, onCycle, onFetches, onLevels, onLocate, onEvent, onDecoded, stepOf}
 use Rattle.bench.specs.Refusals.{eventRefusalOf, Refusals}
 use Rattle.bench.specs.declared.step.Bench.{Bench}
 use Rattle.bench.specs.declared.step.Stepped.{Stepped}
@@ -41,7 +42,7 @@ module _ (b : Bench) (kind : ℕ) where
       record { first = refl; told = refl; still = λ h. ap (λ (a : Answer). record { bench = b; answer = a }) (located-refused kind l h) }
 
   outcome : (d : Decoded) → Due (numberDue b d) (onDecoded b kind d)
-  unfolding onDecoded onEvent onRead onClocks onStrike onReset onCycle onFetches onLevels if_then_else_
+  unfolding onDecoded onEvent alone.onWrite alone.onRead alone.onClocks alone.onStrike alone.onReset onReset onCycle onFetches onLevels onLocate if_then_else_
   outcome (Refused r) = refused _
   outcome (Known (Write rs value)) = done _ refl refl
   outcome (Known (Read rs)) = done _ refl refl

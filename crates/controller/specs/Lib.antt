@@ -2,3 +2,4 @@ pub mod Writes
 pub mod Chip
 pub mod Pins
 pub mod Reads
+pub mod Bytes
