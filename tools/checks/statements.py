@@ -11,8 +11,8 @@ from checks import antt
 # By their paths: the first digits of the sum of all words outside comments.
 SUMS = {
     "crates/basics/specs/Lay.antt": "755429438186ecdb",
-    "crates/bench/specs/Alone.antt": "0f54041a5da8d136",
-    "crates/bench/specs/Refusals.antt": "235387d299e3a0ae",
+    "crates/bench/specs/Alone.antt": "1b38a2bdf12bb138",
+    "crates/bench/specs/Refusals.antt": "bc8519126422d7eb",
     "crates/control/specs/Write.antt": "cc19ff58d2cfa836",
     "crates/controller/specs/Widths.antt": "1223d07be6f9281c",
     "crates/demand/specs/Demand.antt": "9f6bec85ca237f9a",
@@ -20,8 +20,8 @@ SUMS = {
     "crates/frames/specs/Frames.antt": "cbdd1ca4dcdb0b61",
     "crates/frames/specs/Places.antt": "234ed424e50f71e1",
     "crates/raster/specs/Widths.antt": "91836725749cadd3",
-    "crates/record/specs/Refusals.antt": "ea8b36ca9790d7b0",
-    "crates/replay/specs/Laws.antt": "a2fa3224285f9ffe",
+    "crates/record/specs/Refusals.antt": "f8778b3921cb1f2d",
+    "crates/replay/specs/Laws.antt": "da658746cfe4cf39",
     "crates/replay/specs/Run.antt": "f3b1e23a934eee82",
     "crates/settled/specs/Cases.antt": "f10685c6f7dabc93",
     "crates/settled/specs/Premises.antt": "4c4ff8cdc9c103ff",

@@ -1,5 +1,6 @@
 // An answer: eight bytes, the kind and the refusal number first, then the body.
 ghost use mathlib.Core.Path.{_≡_};
+ghost use mathlib.Core.List.{[], _∷_};
 ghost use Rattle.answer.specs.Answer.{doneOf, plainOf, bytesOf};
 
 #[repr(C)]
@@ -15,9 +16,9 @@ pub struct Answer {
 }
 
 impl Answer {
-    // The answer to a record that was done.
+    // The answer to a record that was done. A body byte that its kind does not name is 0.
     pub fn done(kind: u8, b0: u8, b1: u8, b2: u8, b3: u8, b4: u8, b5: u8) -> Answer
-        ensures { λ r. ⌜ r ≡ doneOf kind b0 b1 b2 b3 b4 b5 ⌝ }
+        ensures { λ r. ⌜ r ≡ doneOf kind (b0 ∷ b1 ∷ b2 ∷ b3 ∷ b4 ∷ b5 ∷ []) ⌝ }
     {
         Answer {
             kind,

@@ -3,6 +3,7 @@ pub mod Cases
 pub mod Counting
 pub mod Iterating
 pub mod Laying
+pub mod Parts
 pub mod Table
 pub mod Widths
 pub mod Words

@@ -3,33 +3,22 @@ use Prim.Native.Nat.{ℕ}
 use mathlib.Core.Path.{_≡_, refl}
 use mathlib.Core.Bool.{Bool, true, false}
 use Rattle.basics.specs.Choice.{if_then_else_}
-use Rattle.multiplexer.specs.Chip.{freshOf}
-use Rattle.record.specs.Decode.{allowedOf, checkedOf, decodeOf}
+use Rattle.record.specs.Decode.{lookedUp, checkedOf, decodeOf}
 use Rattle.record.specs.declared.event.Event.{Event}
-use Rattle.bench.specs.Step.{withController, onClocks, onStrike, onEvent, onDecoded, stepOf}
-use Rattle.bench.specs.Alone.{toldOf, aloneOf, AsOnTheBench}
+use Rattle.alone.specs.Records as alone
+use Rattle.bench.specs.Step.{withController, onEvent, onDecoded, stepOf}
+use Rattle.bench.specs.Alone.{AsOnTheBench}
 use Rattle.bench.specs.declared.step.Bench.{Bench}
-use Rattle.bench.specs.declared.step.Stepped.{Stepped}
 
 module _ (b : Bench) where
-  -- what a step of the controller alone gives, put back on the bench
-  back : (Bench → Stepped) → Stepped
-  back step =
-      let t = toldOf (step (record { controller = b .controller; multiplexer = freshOf })) in
-      withController b (t .controller) (t .answer)
-
   -- an event that does the same on both does so whatever the record's fields are
-  same : (fields : Bool) (kind : ℕ) (e : Event) → onEvent b kind e ≡ back (λ s. onEvent s kind e)
-      → onDecoded b kind (checkedOf fields e) ≡ back (λ s. onDecoded s kind (checkedOf fields e))
-  unfolding checkedOf onDecoded if_then_else_ back
+  same : (fields : Bool) (kind : ℕ) (e : Event) → onEvent b kind e ≡ withController b (alone.onEvent (b .controller) kind e)
+      → onDecoded b kind (checkedOf fields e) ≡ withController b (alone.onDecoded (b .controller) kind (checkedOf fields e))
+  unfolding checkedOf onDecoded alone.onDecoded if_then_else_
   same true kind e h = h
   same false kind e h = refl
 
   pub as-on-the-bench : (hi lo value : ℕ) → AsOnTheBench b hi lo value
-  unfolding aloneOf stepOf decodeOf if_then_else_ onEvent onClocks onStrike back
+  unfolding alone.aloneOf stepOf decodeOf lookedUp if_then_else_ onEvent alone.onEvent
   as-on-the-bench hi lo value =
-      record {
-        write = same (allowedOf 1 hi lo value) 1 _ refl;
-        clock = same (allowedOf 3 hi lo value) 3 _ refl;
-        strike = same (allowedOf 4 hi lo value) 4 _ refl;
-      }
+      record { write = same _ _ _ refl; clock = same _ _ _ refl; strike = same _ _ _ refl }

@@ -5,7 +5,7 @@ use Rattle.answer.specs.Answer.{plainOf}
 use Rattle.locator.specs.Locate.{refusalOf, locateOf}
 use Rattle.record.specs.Decode.{decodeOf, numberOf}
 use Rattle.record.specs.declared.event.Event.{Event}
-use Rattle.record.specs.declared.event.Event.the-variants.{Locate}
+use Rattle.record.specs.declared.event.Event.the-variants.{Write, Read, Clocks, Strike, Reset, Cycle, Fetches, Levels, Locate}
 use Rattle.record.specs.declared.kinds.Refusal.{Refusal}
 use Rattle.record.specs.declared.kinds.Decoded.the-variants.{Known, Refused}
 use Rattle.bench.specs.Step.{stepOf}
@@ -14,6 +14,18 @@ use Rattle.bench.specs.declared.step.Bench.{Bench}
 -- the refusal number that a record is answered with
 abbrev pub toldNumber : Bench → ℕ → ℕ → ℕ → ℕ → ℕ
 toldNumber b kind hi lo value = stepOf b kind hi lo value .answer .refusal
+
+-- The refusal of an event on a bench: 5 to 8 by the locator's answer for one that locates; all others are done.
+abbrev pub eventRefusalOf : Bench → Event → ℕ
+eventRefusalOf b (Write rs value) = 0
+eventRefusalOf b (Read rs) = 0
+eventRefusalOf b (Clocks n) = 0
+eventRefusalOf b Strike = 0
+eventRefusalOf b (Reset multiplexer) = 0
+eventRefusalOf b (Cycle address read) = 0
+eventRefusalOf b (Fetches n) = 0
+eventRefusalOf b (Levels hs da0) = 0
+eventRefusalOf b Locate = refusalOf (locateOf (b .controller))
 
 -- every record on every bench
 pub record Refusals (b : Bench) (kind hi lo value : ℕ) : Type 0 where
@@ -25,7 +37,5 @@ pub record Refusals (b : Bench) (kind hi lo value : ℕ) : Type 0 where
   pub first : stepOf b kind hi lo value .answer .kind ≡ kind
   -- 1 and 2 for a record that is no event, the two cases being those that `Refusals` of the crate `record` tells apart
   pub decoded : (r : Refusal) → decodeOf kind hi lo value ≡ Refused r → toldNumber b kind hi lo value ≡ numberOf (Refused r)
-  -- 5 to 8 for a record that locates, by the locator's answer
-  pub located : decodeOf kind hi lo value ≡ Known Locate → toldNumber b kind hi lo value ≡ refusalOf (locateOf (b .controller))
-  -- every other record is done
-  pub done : (e : Event) → decodeOf kind hi lo value ≡ Known e → (e ≡ Locate → ⊥) → toldNumber b kind hi lo value ≡ 0
+  -- and for one that is, the refusal of its event, or 0
+  pub known : (e : Event) → decodeOf kind hi lo value ≡ Known e → toldNumber b kind hi lo value ≡ eventRefusalOf b e

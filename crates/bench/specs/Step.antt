@@ -3,12 +3,8 @@
 use Prim.Native.Nat.{ℕ}
 use mathlib.Core.Bool.{Bool}
 use Rattle.basics.specs.Choice.{if_then_else_}
-use Rattle.answer.specs.Answer.{plainOf}
+use Rattle.answer.specs.Answer.{doneOf, plainOf}
 use Rattle.answer.specs.declared.Answer.{Answer}
-use Rattle.controller.specs.Chip.{resetOf, writeOf, clockOf, strikeOf}
-use Rattle.controller.specs.Pins.{outputsOf}
-use Rattle.controller.specs.Reads.{readOf}
-use Rattle.controller.specs.declared.chip.Controller.{Controller}
 use Rattle.locator.specs.Locate.{locateOf}
 use Rattle.multiplexer.specs.Chip.{freshOf, busOf, fetchesOf, shownOf, levelsOf}
 use Rattle.multiplexer.specs.declared.chip.Multiplexer.{Multiplexer}
@@ -17,62 +13,56 @@ use Rattle.record.specs.declared.event.Event.{Event}
 use Rattle.record.specs.declared.event.Event.the-variants.{Write, Read, Clocks, Strike, Reset, Cycle, Fetches, Levels, Locate}
 use Rattle.record.specs.declared.kinds.Decoded.{Decoded}
 use Rattle.record.specs.declared.kinds.Decoded.the-variants.{Known, Refused}
-use Rattle.bodies.specs.Bodies.{readAnswerOf, timeAnswerOf, strikeAnswerOf, busAnswerOf, shownAnswerOf, levelsAnswerOf, locatedAnswerOf}
+use Rattle.alone.specs.Events as alone
+use Rattle.alone.specs.declared.events.Told.{Told}
+use Rattle.bodies.specs.Bodies.{busBodyOf, shownBodyOf, levelsBodyOf, locatedAnswerOf}
 use Rattle.bench.specs.declared.step.Bench.{Bench}
 use Rattle.bench.specs.declared.step.Stepped.{Stepped}
 
--- the bench with another controller, and an answer
-abbrev pub withController : Bench → Controller → Answer → Stepped
-withController b c a = record { bench = record { controller = c; multiplexer = b .multiplexer }; answer = a }
+-- the bench with the controller that one of its events leaves, and what that event answers
+abbrev pub withController : Bench → Told → Stepped
+withController b t = record { bench = record { controller = t .controller; multiplexer = b .multiplexer }; answer = t .answer }
 
 -- the bench with another multiplexer, and an answer
 abbrev pub withMultiplexer : Bench → Multiplexer → Answer → Stepped
 withMultiplexer b m a = record { bench = record { controller = b .controller; multiplexer = m }; answer = a }
 
--- kind 2: the reading, and the controller after it
-unfoldable pub onRead : Bench → ℕ → Bool → Stepped
-onRead b kind rs = withController b (readOf (b .controller) rs .controller) (readAnswerOf kind (readOf (b .controller) rs))
-
--- kind 3: the outputs of the character time reached. Decision: n of 0 is allowed and tells the outputs as they are.
-unfoldable pub onClocks : Bench → ℕ → ℕ → Stepped
-onClocks b kind n = withController b (clockOf n (b .controller)) (timeAnswerOf kind (outputsOf (clockOf n (b .controller))))
-
--- kind 4: what the strike latched
-unfoldable pub onStrike : Bench → ℕ → Stepped
-onStrike b kind = withController b (strikeOf (b .controller)) (strikeAnswerOf kind (strikeOf (b .controller) .pen))
-
 -- kind 5: the one chip or the other
 unfoldable pub onReset : Bench → ℕ → Bool → Stepped
 onReset b kind multiplexer =
     if multiplexer then withMultiplexer b freshOf (plainOf kind 0)
-    else withController b (resetOf (b .controller)) (plainOf kind 0)
+    else withController b (alone.onReset (b .controller) kind)
 
 -- kind 6: the cycle as it was judged, and the multiplexer after its write
 unfoldable pub onCycle : Bench → ℕ → ℕ → Bool → Stepped
 onCycle b kind address read =
-    withMultiplexer b (busOf (b .multiplexer) address read .multiplexer) (busAnswerOf kind (busOf (b .multiplexer) address read .cycle))
+    withMultiplexer b (busOf (b .multiplexer) address read .multiplexer) (doneOf kind (busBodyOf (busOf (b .multiplexer) address read .cycle)))
 
 -- kind 7: what the display shows after its fetches
 unfoldable pub onFetches : Bench → ℕ → ℕ → Stepped
 onFetches b kind n =
-    withMultiplexer b (fetchesOf (b .multiplexer) n) (shownAnswerOf kind (shownOf (fetchesOf (b .multiplexer) n)))
+    withMultiplexer b (fetchesOf (b .multiplexer) n) (doneOf kind (shownBodyOf (shownOf (fetchesOf (b .multiplexer) n))))
 
 -- kind 8: the edge that the levels made, and the refresh at it
 unfoldable pub onLevels : Bench → ℕ → Bool → Bool → Stepped
 onLevels b kind hs da0 =
-    withMultiplexer b (levelsOf (b .multiplexer) hs da0 .multiplexer) (levelsAnswerOf kind (levelsOf (b .multiplexer) hs da0))
+    withMultiplexer b (levelsOf (b .multiplexer) hs da0 .multiplexer) (doneOf kind (levelsBodyOf (levelsOf (b .multiplexer) hs da0)))
 
--- a known event. Kinds 1 and 5 have a zero body; kind 9 asks, and moves neither chip.
+-- kind 9: it asks, and moves neither chip
+unfoldable pub onLocate : Bench → ℕ → Stepped
+onLocate b kind = record { bench = b; answer = locatedAnswerOf kind (locateOf (b .controller)) }
+
+-- a known event, on the one chip that it is for
 unfoldable pub onEvent : Bench → ℕ → Event → Stepped
-onEvent b kind (Write rs value) = withController b (writeOf (b .controller) rs value) (plainOf kind 0)
-onEvent b kind (Read rs) = onRead b kind rs
-onEvent b kind (Clocks n) = onClocks b kind n
-onEvent b kind Strike = onStrike b kind
+onEvent b kind (Write rs value) = withController b (alone.onWrite (b .controller) kind rs value)
+onEvent b kind (Read rs) = withController b (alone.onRead (b .controller) kind rs)
+onEvent b kind (Clocks n) = withController b (alone.onClocks (b .controller) kind n)
+onEvent b kind Strike = withController b (alone.onStrike (b .controller) kind)
 onEvent b kind (Reset multiplexer) = onReset b kind multiplexer
 onEvent b kind (Cycle address read) = onCycle b kind address read
 onEvent b kind (Fetches n) = onFetches b kind n
 onEvent b kind (Levels hs da0) = onLevels b kind hs da0
-onEvent b kind Locate = withController b (b .controller) (locatedAnswerOf kind (locateOf (b .controller)))
+onEvent b kind Locate = onLocate b kind
 
 -- A decoded record: its event is done; or it is refused, with its number and a zero body, and neither chip changes.
 -- Decision: the answer's first byte is the kind byte as it came, of an unknown kind too.

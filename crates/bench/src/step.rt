@@ -1,14 +1,12 @@
 // One record on the bench.
 ghost use mathlib.Core.Path.{_≡_};
-ghost use Rattle.bench.specs.Step.{withController, withMultiplexer, onRead, onClocks, onStrike, onReset, onCycle, onFetches, onLevels, onEvent, stepOf};
+ghost use Rattle.bench.specs.Step.{withController, withMultiplexer, onReset, onCycle, onFetches, onLevels, onLocate, onEvent, stepOf};
+use alone::Told;
 use answer::Answer;
 use bodies::bus_answer;
 use bodies::levels_answer;
 use bodies::located_answer;
-use bodies::read_answer;
 use bodies::shown_answer;
-use bodies::strike_answer;
-use bodies::time_answer;
 use controller::Controller;
 use locator::locate;
 use multiplexer::Multiplexer;
@@ -28,14 +26,16 @@ pub struct Stepped {
 }
 
 impl Bench {
-    fn with_controller(self, controller: Controller, answer: Answer) -> Stepped
-        ensures { λ r. ⌜ r ≡ withController self controller answer ⌝ }
+    fn with_controller(self, told: Told) -> Stepped
+        ensures { λ r. ⌜ r ≡ withController self told ⌝ }
     {
+        let controller = told.controller;
         let multiplexer = self.multiplexer;
         let bench = Bench {
             controller,
             multiplexer,
         };
+        let answer = told.answer;
         Stepped { bench, answer }
     }
 
@@ -50,35 +50,13 @@ impl Bench {
         Stepped { bench, answer }
     }
 
-    fn on_read(self, kind: u8, rs: bool) -> Stepped
-        ensures { λ r. ⌜ r ≡ onRead self kind rs ⌝ }
-    {
-        let reading = self.controller.read(rs);
-        let controller = reading.controller;
-        self.with_controller(controller, read_answer(kind, reading))
-    }
-
-    fn on_clocks(self, kind: u8, n: u16) -> Stepped
-        ensures { λ r. ⌜ r ≡ onClocks self kind n ⌝ }
-    {
-        let controller = self.controller.clock(n);
-        self.with_controller(controller, time_answer(kind, controller.outputs()))
-    }
-
-    fn on_strike(self, kind: u8) -> Stepped
-        ensures { λ r. ⌜ r ≡ onStrike self kind ⌝ }
-    {
-        let controller = self.controller.strike();
-        self.with_controller(controller, strike_answer(kind, controller.pen))
-    }
-
     fn on_reset(self, kind: u8, multiplexer: bool) -> Stepped
         ensures { λ r. ⌜ r ≡ onReset self kind multiplexer ⌝ }
     {
         if multiplexer {
             return self.with_multiplexer(self.multiplexer.reset(), Answer::plain(kind, 0));
         }
-        self.with_controller(self.controller.reset(), Answer::plain(kind, 0))
+        self.with_controller(alone::on_reset(self.controller, kind))
     }
 
     fn on_cycle(self, kind: u8, address: u16, read: bool) -> Stepped
@@ -104,25 +82,33 @@ impl Bench {
         self.with_multiplexer(multiplexer, levels_answer(kind, levelled))
     }
 
+    fn on_locate(self, kind: u8) -> Stepped
+        ensures { λ r. ⌜ r ≡ onLocate self kind ⌝ }
+    {
+        let answer = located_answer(kind, locate(self.controller));
+        Stepped {
+            bench: self,
+            answer,
+        }
+    }
+
     // An event, on the one chip that it is for.
     fn on_event(self, kind: u8, event: Event) -> Stepped
         ensures { λ r. ⌜ r ≡ onEvent self kind event ⌝ }
     {
-        let controller = self.controller;
+        let c = self.controller;
         match event {
             Event::Write { rs, value } => {
-                self.with_controller(controller.write(rs, value), Answer::plain(kind, 0))
+                self.with_controller(alone::on_write(c, kind, rs, value))
             }
-            Event::Read { rs } => self.on_read(kind, rs),
-            Event::Clocks { n } => self.on_clocks(kind, n),
-            Event::Strike => self.on_strike(kind),
+            Event::Read { rs } => self.with_controller(alone::on_read(c, kind, rs)),
+            Event::Clocks { n } => self.with_controller(alone::on_clocks(c, kind, n)),
+            Event::Strike => self.with_controller(alone::on_strike(c, kind)),
             Event::Reset { multiplexer } => self.on_reset(kind, multiplexer),
             Event::Cycle { address, read } => self.on_cycle(kind, address, read),
             Event::Fetches { n } => self.on_fetches(kind, n),
             Event::Levels { hs, da0 } => self.on_levels(kind, hs, da0),
-            Event::Locate => {
-                self.with_controller(controller, located_answer(kind, locate(controller)))
-            }
+            Event::Locate => self.on_locate(kind),
         }
     }
 

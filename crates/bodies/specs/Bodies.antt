@@ -1,47 +1,32 @@
--- The body bytes that each kind answers with (document 01, "Records and what comes back", the paragraph under the table of kinds).
--- Kinds 1 and 5 name none.
-use Prim.Native.Nat.{ℕ, _+_, _*_}
-use Rattle.basics.specs.Bits.{num, highOf, lowOf}
-use Rattle.answer.specs.Answer.{doneOf}
+-- The body bytes of the multiplexer's answers and of the locator's (document 01, "Records and what comes back", the paragraph under the
+-- table of kinds). Those of the controller's answers stand in the crate `alone`.
+use Prim.Native.Nat.{ℕ}
+use mathlib.Core.List.{List, [], _∷_}
+use Rattle.basics.specs.Bits.{num}
+use Rattle.answer.specs.Answer.{answeredOf}
 use Rattle.answer.specs.declared.Answer.{Answer}
-use Rattle.pen.specs.declared.pen.Pen.{Pen}
-use Rattle.controller.specs.declared.pins.Outputs.{Outputs}
-use Rattle.controller.specs.declared.reads.Reading.{Reading}
 use Rattle.locator.specs.Locate.{refusalOf, cellOf}
 use Rattle.locator.specs.declared.answer.Located.{Located}
 use Rattle.multiplexer.specs.declared.bus.Cycle.{Cycle}
 use Rattle.multiplexer.specs.declared.chip.Shown.{Shown}
 use Rattle.multiplexer.specs.declared.chip.Levelled.{Levelled}
 
--- kind 2: whether the chip drove the bus, and the value
-unfoldable pub readAnswerOf : ℕ → Reading → Answer
-readAnswerOf kind r = doneOf kind (num (r .driven)) (r .value) 0 0 0 0
-
--- kind 3's flags, each a bit: the picture fact the lowest, then the pins of display enable, cursor, HSYNC and VSYNC
-unfoldable pub flagsOf : Outputs → ℕ
-flagsOf o = num (o .picture) * 1 + num (o .display) * 2 + num (o .cursor) * 4 + num (o .hsync) * 8 + num (o .vsync) * 16
-
--- kind 3: MA by its two bytes, RA and the flags, all of one character time
-unfoldable pub timeAnswerOf : ℕ → Outputs → Answer
-timeAnswerOf kind o = doneOf kind (highOf (o .ma)) (lowOf (o .ma)) (o .ra) (flagsOf o) 0 0
-
--- kind 4: the latch by its two bytes, and whether the strike fell in the picture
-unfoldable pub strikeAnswerOf : ℕ → Pen → Answer
-strikeAnswerOf kind p = doneOf kind (highOf (p .latch)) (lowOf (p .latch)) (num (p .inside)) 0 0 0
-
 -- kind 6: select, ticks, flags and the cell
-unfoldable pub busAnswerOf : ℕ → Cycle → Answer
-busAnswerOf kind c = doneOf kind (c .select) (c .ticks) (c .flags) (c .cell .bank) (c .cell .row) (c .cell .column)
+unfoldable pub busBodyOf : Cycle → List ℕ
+busBodyOf c = c .select ∷ c .ticks ∷ c .flags ∷ c .cell .bank ∷ c .cell .row ∷ c .cell .column ∷ []
 
 -- kind 7: the display address by its two bytes, its cell, and whether the display has access to the RAM
-unfoldable pub shownAnswerOf : ℕ → Shown → Answer
-shownAnswerOf kind s = doneOf kind (s .high) (s .low) (s .cell .bank) (s .cell .row) (s .cell .column) (num (s .access))
+unfoldable pub shownBodyOf : Shown → List ℕ
+shownBodyOf s = s .high ∷ s .low ∷ s .cell .bank ∷ s .cell .row ∷ s .cell .column ∷ num (s .access) ∷ []
 
 -- kind 8: the edge, the first row refreshed and how many
-unfoldable pub levelsAnswerOf : ℕ → Levelled → Answer
-levelsAnswerOf kind l = doneOf kind (l .edge) (l .first) (l .count) 0 0 0
+unfoldable pub levelsBodyOf : Levelled → List ℕ
+levelsBodyOf l = l .edge ∷ l .first ∷ l .count ∷ []
 
--- kind 9: row and column of the cell, or the locator's refusal with a zero body
-unfoldable pub locatedAnswerOf : ℕ → Located → Answer
-locatedAnswerOf kind l =
-    record { kind = kind; refusal = refusalOf l; b0 = cellOf l .row; b1 = cellOf l .column; b2 = 0; b3 = 0; b4 = 0; b5 = 0 }
+-- kind 9: row and column of the cell; zero where there is none
+unfoldable pub locatedBodyOf : Located → List ℕ
+locatedBodyOf l = cellOf l .row ∷ cellOf l .column ∷ []
+
+-- kind 9's answer has the locator's refusal
+abbrev pub locatedAnswerOf : ℕ → Located → Answer
+locatedAnswerOf kind l = answeredOf kind (refusalOf l) (locatedBodyOf l)

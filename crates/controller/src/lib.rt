@@ -1,4 +1,5 @@
 // The 6545-1 display controller: registers, scan, syncs, delayed pins and light pen.
+mod bytes;
 mod chip;
 mod pins;
 mod reads;

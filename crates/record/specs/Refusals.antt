@@ -4,15 +4,20 @@ use Prim.Native.Nat.{ℕ, _<_, _≤_}
 use mathlib.Core.Path.{_≡_}
 use mathlib.Core.Bool.{true, false}
 use mathlib.Core.Logic.{_↔_, _⊎_}
-use Rattle.record.specs.Decode.{allowedOf, decodeOf, numberOf}
+use lib.ListN.{length}
+use Rattle.record.specs.Decode.{tableOf, allowedOf, decodeOf, numberOf}
+
+-- the last kind of the table, which has as many lines whatever the fields are
+abbrev pub lastKind : ℕ
+lastKind = length (tableOf 0 0 0)
 
 -- the kinds that the table lacks
 abbrev pub UnknownKind : ℕ → Type 0
-UnknownKind kind = (kind ≡ 0) ⊎ (9 < kind)
+UnknownKind kind = (kind ≡ 0) ⊎ (lastKind < kind)
 
 -- and those that it has
 abbrev pub KnownKind : ℕ → Type 0
-KnownKind kind = (1 ≤ kind) × (kind ≤ 9)
+KnownKind kind = (1 ≤ kind) × (kind ≤ lastKind)
 
 -- none, 1 and 2: each exactly in its case
 pub record Refusals (kind hi lo value : ℕ) : Type 0 where

@@ -1,6 +1,6 @@
-// The table of kinds. A new kind is a new last line of `allowed` and of `decode`.
+// The table of kinds. A new kind is a new last line of `decode`.
 ghost use mathlib.Core.Path.{_≡_};
-ghost use Rattle.record.specs.Decode.{allowedOf, checkedOf, decodeOf, numberOf};
+ghost use Rattle.record.specs.Decode.{checkedOf, decodeOf, numberOf};
 use crate::event::Event;
 use basics::word;
 
@@ -13,24 +13,6 @@ pub enum Refusal {
 pub enum Decoded {
     Known(Event),
     Refused(Refusal),
-}
-
-// Whether a kind allows these fields.
-fn allowed(kind: u8, hi: u8, lo: u8, value: u8) -> bool
-    ensures { λ r. ⌜ r ≡ allowedOf kind hi lo value ⌝ }
-{
-    match kind {
-        1 => (hi == 0) & (lo <= 1),
-        2 => (hi == 0) & (lo <= 1) & (value == 0),
-        3 => value == 0,
-        4 => (hi == 0) & (lo == 0) & (value == 0),
-        5 => (hi == 0) & (lo <= 1) & (value == 0),
-        6 => value <= 1,
-        7 => value == 0,
-        8 => (hi == 0) & (lo <= 1) & (value <= 1),
-        9 => (hi == 0) & (lo == 0) & (value == 0),
-        _ => false,
-    }
 }
 
 // An event whose fields have been looked at.
@@ -47,25 +29,23 @@ pub fn decode(kind: u8, hi: u8, lo: u8, value: u8) -> Decoded
     ensures { λ r. ⌜ r ≡ decodeOf kind hi lo value ⌝ }
 {
     let n = word(hi, lo);
+    let address = n;
     let up = lo == 1;
     let set = value == 1;
-    let fields = allowed(kind, hi, lo, value);
+    let read = set;
+    // lo is a level; all fields are 0
+    let level = (hi == 0) & (lo <= 1);
+    let empty = (hi == 0) & (lo == 0) & (value == 0);
     match kind {
-        1 => checked(fields, Event::Write { rs: up, value }),
-        2 => checked(fields, Event::Read { rs: up }),
-        3 => checked(fields, Event::Clocks { n }),
-        4 => checked(fields, Event::Strike),
-        5 => checked(fields, Event::Reset { multiplexer: up }),
-        6 => checked(
-            fields,
-            Event::Cycle {
-                address: n,
-                read: set,
-            },
-        ),
-        7 => checked(fields, Event::Fetches { n }),
-        8 => checked(fields, Event::Levels { hs: up, da0: set }),
-        9 => checked(fields, Event::Locate),
+        1 => checked(level, Event::Write { rs: up, value }),
+        2 => checked(level & (value == 0), Event::Read { rs: up }),
+        3 => checked(value == 0, Event::Clocks { n }),
+        4 => checked(empty, Event::Strike),
+        5 => checked(level & (value == 0), Event::Reset { multiplexer: up }),
+        6 => checked(value <= 1, Event::Cycle { address, read }),
+        7 => checked(value == 0, Event::Fetches { n }),
+        8 => checked(level & (value <= 1), Event::Levels { hs: up, da0: set }),
+        9 => checked(empty, Event::Locate),
         _ => Decoded::Refused(Refusal::Kind),
     }
 }

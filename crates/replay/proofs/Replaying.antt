@@ -1,13 +1,12 @@
 -- The loop of `replay`, a record at a time: how it starts, what a turn adds, and what each end gives. Assumes nothing.
-use Prim.Native.Nat.{ℕ, suc, _+_, _-_, _*_, _≤_, _<_}
+use Prim.Native.Nat.{ℕ, _+_, _-_, _*_, _≤_, _<_}
 use mathlib.Core.Path.{_≡_, refl, sym, ap, _∙_}
 use mathlib.Core.List.{List, [], _∷_, _++_, append-nil}
 use native.Mathlib.Nat.{add-zero}
-use native.Mathlib.Numerals.{towards-suc}
 use native.Mathlib.Omega.{arith}
 use lib.ListN.{length, getD, drop, length-append, length-drop, drop-of-length-le}
-use lib.Seq.{drop-cons}
 use Rattle.basics.specs.Lay.{laidAt, putAt}
+use Rattle.basics.proofs.Parts.{drop-next}
 use Rattle.basics.proofs.Laying.{laid-none, laid-put, length-laid}
 use Rattle.answer.specs.Answer.{bytesOf}
 use Rattle.answer.specs.declared.Answer.{Answer}
@@ -29,17 +28,17 @@ written-next [] a = append-nil (bytesOf a)
 written-next (x ∷ l) a = ap (λ (w : List ℕ). bytesOf x ++ w) (written-next l a)
 
 -- the four bytes of a record, from a place on
-four : (l : List ℕ) (i : ℕ) → i + 4 ≤ length l → drop i l ≡ getD l i 0 ∷ getD l (i + 1) 0 ∷ getD l (i + 2) 0 ∷ getD l (i + 3) 0 ∷ drop (i + 4) l
-four l i h =
-    simp towards-suc
-    (rw (
-      drop-cons l i 0 (omega arith),
-      drop-cons l (suc i) 0 (omega arith),
-      drop-cons l (suc (suc i)) 0 (omega arith),
-      drop-cons l (suc (suc (suc i))) 0 (omega arith),
-    ))
+pub record-at : (l : List ℕ) (i : ℕ) → i + 4 ≤ length l → drop i l ≡ getD l i 0 ∷ getD l (i + 1) 0 ∷ getD l (i + 2) 0 ∷ getD l (i + 3) 0 ∷ drop (i + 4) l
+record-at l i h =
+    rw (
+      drop-next l i (i + 1) (omega arith) (omega arith),
+      drop-next l (i + 1) (i + 2) (omega arith) (omega arith),
+      drop-next l (i + 2) (i + 3) (omega arith) (omega arith),
+      drop-next l (i + 3) (i + 4) (omega arith) (omega arith),
+    )
 
-short : (x : List ℕ) (room : ℕ) (b : Bench) → 0 < length x → length x < 4 → runOf x room b ≡ stop b 3
+-- one to three bytes
+pub short : (x : List ℕ) (room : ℕ) (b : Bench) → 0 < length x → length x < 4 → runOf x room b ≡ stop b 3
 unfolding runOf
 short [] room b h g = absurd (omega arith)
 short (x ∷ []) room b h g = refl
@@ -91,7 +90,7 @@ module _ {batch out₀ : List ℕ} {b₀ : Bench} {out : List ℕ} {b : Bench} {
       ends 3 (short (drop taken batch) (length out₀ - 8 * answers) b (simp length-drop (omega arith)) (simp length-drop (omega arith)))
 
   pub ends-full : taken + 4 ≤ length batch → length out₀ - 8 * answers < 8 → Given batch out₀ b₀ out (endedOf b 4 taken answers)
-  ends-full g k = ends 4 (rw (four batch taken g) (run-full _ _ _ _ _ (length out₀ - 8 * answers) b k))
+  ends-full g k = ends 4 (rw (record-at batch taken g) (run-full _ _ _ _ _ (length out₀ - 8 * answers) b k))
 
   pub more : taken + 4 ≤ length batch → 8 ≤ length out₀ - 8 * answers
       → (s : Stepped) → s ≡ stepAt b batch taken
@@ -104,7 +103,7 @@ module _ {batch out₀ : List ℕ} {b₀ : Bench} {out : List ℕ} {b : Bench} {
       let laid : o ≡ laidAt out₀ 0 (writtenOf (l ++ (a ∷ []))) =
       w ∙ rw (h .holds, written-next l a) (laid-put out₀ 0 (writtenOf l) (bytesOf a) (8 * answers) long (omega arith)) in
       let turn : runOf (drop taken batch) (length out₀ - 8 * answers) b ≡ after s (runOf (drop (taken + 4) batch) (length out₀ - 8 * answers - 8)) =
-      rw (four batch taken i, e) (run-more _ _ _ _ (drop (taken + 4) batch) (length out₀ - 8 * answers) b r) in
+      rw (record-at batch taken i, e) (run-more _ _ _ _ (drop (taken + 4) batch) (length out₀ - 8 * answers) b r) in
       let left : length out₀ - 8 * answers - 8 ≡ length out₀ - 8 * (answers + 1) = omega arith in
       record {
         within = i;

@@ -3,7 +3,7 @@ use Prim.Native.Nat.{ℕ, _+_, _-_, _*_, _≤_, _<_}
 use mathlib.Core.Path.{_≡_}
 use mathlib.Core.List.{List, _++_}
 use mathlib.Core.Logic.{_↔_, _⊎_}
-use lib.ListN.{length}
+use lib.ListN.{length, take, drop}
 use Rattle.bench.specs.declared.step.Bench.{Bench}
 use Rattle.replay.specs.Run.{Run, onto, runOf}
 
@@ -27,5 +27,13 @@ andThen r more room = onto (r .taken) (r .answers) (runOf more (room - 8 * lengt
 -- every run on a bench into some room
 pub record Runs (b : Bench) (room : ℕ) : Type 0 where
   pub sound : (batch : List ℕ) → Sound batch room (runOf batch room b)
-  -- a batch whose first part is taken whole is replayed part by part
-  pub run-then : (batch more : List ℕ) → runOf batch room b .ending ≡ 0 → runOf (batch ++ more) room b ≡ andThen (runOf batch room b) more room
+  -- What a run took, with any bytes behind it, replayed into any room that holds the run's answers: that run, and then a run over the
+  -- bytes behind. However the run ended, nothing but what it took bears on it.
+  pub run-taken : (batch more : List ℕ) (wide : ℕ) → 8 * length (runOf batch room b .answers) ≤ wide
+      → runOf (take (runOf batch room b .taken) batch ++ more) wide b ≡ andThen (runOf batch room b) more wide
+  -- A batch is replayed part by part: a run over its first part, however that ends, and then a run over what the first left unread, with
+  -- the second part behind it.
+  pub run-then : (batch more : List ℕ)
+      → runOf (batch ++ more) room b ≡ andThen (runOf batch room b) (drop (runOf batch room b .taken) batch ++ more) room
+  -- so where the first part is taken whole, the second alone is left
+  pub run-whole : (batch more : List ℕ) → runOf batch room b .ending ≡ 0 → runOf (batch ++ more) room b ≡ andThen (runOf batch room b) more room

@@ -1,4 +1,4 @@
-use Rattle.bodies.specs.Bodies.{levelsAnswerOf}
+use Rattle.bodies.specs.Bodies.{levelsBodyOf}
 use borrow.Author.Needs.{needs}
 use Rattle.bodies.proofs.levels_answer.Statement.{statement}
 use Rattle.bodies.proofs.levels_answer.Tie as tie
@@ -7,7 +7,7 @@ done-requires : tie.Need-done-requires
 done-requires c κs = search needs
 
 returns : tie.Need-returns
-unfolding levelsAnswerOf
+unfolding levelsBodyOf
 returns c = c .done .ensures
 
 pub levels-answer-spec : {M : Type 1} → statement M

@@ -1,4 +1,4 @@
-use Rattle.bodies.specs.Bodies.{locatedAnswerOf}
+use Rattle.bodies.specs.Bodies.{locatedBodyOf}
 use borrow.Author.Needs.{needs}
 use Rattle.bodies.proofs.located_answer.Statement.{statement}
 use Rattle.bodies.proofs.located_answer.Tie as tie
@@ -13,7 +13,7 @@ refusal-requires : tie.Need-refusal-requires
 refusal-requires c κs = search needs
 
 returns : tie.Need-returns
-unfolding locatedAnswerOf
+unfolding locatedBodyOf
 returns c = rw (c .refusal .ensures, c .before .done .ensures, c .before .before .cell .ensures)
 
 pub located-answer-spec : {M : Type 1} → statement M

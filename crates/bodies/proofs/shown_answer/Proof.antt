@@ -1,4 +1,4 @@
-use Rattle.bodies.specs.Bodies.{shownAnswerOf}
+use Rattle.bodies.specs.Bodies.{shownBodyOf}
 use borrow.Author.Needs.{needs}
 use Rattle.bodies.proofs.shown_answer.Statement.{statement}
 use Rattle.bodies.proofs.shown_answer.Tie as tie
@@ -10,7 +10,7 @@ done-requires : tie.Need-done-requires
 done-requires c κs = search needs
 
 returns : tie.Need-returns
-unfolding shownAnswerOf
+unfolding shownBodyOf
 returns c = rw (c .before .number .ensures) at (c .done .ensures)
 
 pub shown-answer-spec : {M : Type 1} → statement M

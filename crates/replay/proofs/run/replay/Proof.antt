@@ -42,12 +42,13 @@ ended-requires-2 : tie.Need-ended-requires-2 Inv-loop μ-loop
 ended-requires-2 c κs = search needs
 
 same-length-2 : tie.Need-same-length-2 Inv-loop μ-loop
-same-length-2 c = c .before .before .before .before .loop .inv .same
+same-length-2 c = let room = c .before .before in room .before .before .loop .inv .same
 
 returns-2 : tie.Need-returns-2 Inv-loop μ-loop
 unfolding replayOf outputOf
 returns-2 c =
-    let e = ends-full (c .before .before .before .before .loop .inv) (omega arith) (omega arith) in
+    let room = c .before .before in
+    let e = ends-full (room .before .before .loop .inv) (omega arith) (omega arith) in
     (c .ended2 .ensures ∙ e .0, (e .1, refl))
 
 step-at-requires : tie.Need-step-at-requires Inv-loop μ-loop
@@ -72,7 +73,8 @@ loop-again : tie.Need-loop-again Inv-loop μ-loop
 loop-again c =
     let wrote = c .before .before .before in
     let stepped = wrote .before .before .before in
-    more (stepped .before .before .before .before .loop .inv) (omega arith) (omega arith) _ (stepped .step-at .ensures) _ (wrote .write .ensures)
+    let room = stepped .before .before in
+    more (room .before .before .loop .inv) (omega arith) (omega arith) _ (stepped .step-at .ensures) _ (wrote .write .ensures)
 
 ended-requires-3 : tie.Need-ended-requires-3 Inv-loop μ-loop
 ended-requires-3 c κs = search needs

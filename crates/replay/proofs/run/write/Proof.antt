@@ -15,7 +15,9 @@ same-length : tie.Need-same-length
 same-length c = search needs
 
 returns : tie.Need-returns
-returns c = rw (c .before .before .before .before .before .bytes .ensures) at (c .before .before .put .ensures .1 .0)
+returns c =
+    let laid = c .before .before in
+    rw (laid .before .before .before .bytes .ensures) at (laid .put .ensures .1 .0)
 
 pub write-spec : {M : Type 1} → statement M
 write-spec =

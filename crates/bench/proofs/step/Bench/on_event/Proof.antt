@@ -6,11 +6,8 @@ use Rattle.bench.proofs.step.Bench.on_event.Tie as tie
 enum-known-event : tie.Need-enum-known-event
 enum-known-event c = search needs
 
-write-requires : tie.Need-write-requires
-write-requires c κs = search needs
-
-plain-requires : tie.Need-plain-requires
-plain-requires c κs = search needs
+on-write-requires : tie.Need-on-write-requires
+on-write-requires c κs = search needs
 
 with-controller-requires : tie.Need-with-controller-requires
 with-controller-requires c κs = search needs
@@ -21,17 +18,26 @@ enum-known-event-2 c = search needs
 on-read-requires : tie.Need-on-read-requires
 on-read-requires c κs = search needs
 
+with-controller-requires-2 : tie.Need-with-controller-requires-2
+with-controller-requires-2 c κs = search needs
+
 enum-known-event-3 : tie.Need-enum-known-event-3
 enum-known-event-3 c = search needs
 
 on-clocks-requires : tie.Need-on-clocks-requires
 on-clocks-requires c κs = search needs
 
+with-controller-requires-3 : tie.Need-with-controller-requires-3
+with-controller-requires-3 c κs = search needs
+
 enum-told : tie.Need-enum-told
 enum-told c = search needs
 
 on-strike-requires : tie.Need-on-strike-requires
 on-strike-requires c κs = search needs
+
+with-controller-requires-4 : tie.Need-with-controller-requires-4
+with-controller-requires-4 c κs = search needs
 
 enum-known-event-4 : tie.Need-enum-known-event-4
 enum-known-event-4 c = search needs
@@ -60,30 +66,24 @@ on-levels-requires c κs = search needs
 enum-told-2 : tie.Need-enum-told-2
 enum-told-2 c = search needs
 
-locate-requires : tie.Need-locate-requires
-locate-requires c κs = search needs
-
-located-answer-requires : tie.Need-located-answer-requires
-located-answer-requires c κs = search needs
-
-with-controller-requires-2 : tie.Need-with-controller-requires-2
-with-controller-requires-2 c κs = search needs
+on-locate-requires : tie.Need-on-locate-requires
+on-locate-requires c κs = search needs
 
 returns : tie.Need-returns
 unfolding onEvent
-returns c = rw (c .before .before .before .before .event .given .1) (rw (c .before .plain .ensures, c .before .before .write .ensures) at (c .with-controller .ensures))
+returns c = rw (c .before .before .before .event .given .1) (rw (c .before .on-write .ensures) at (c .with-controller .ensures))
 
 returns-2 : tie.Need-returns-2
 unfolding onEvent
-returns-2 c = rw (c .before .before .event2 .given .1) (c .on-read .ensures)
+returns-2 c = rw (c .before .before .before .event2 .given .1) (rw (c .before .on-read .ensures) at (c .with-controller2 .ensures))
 
 returns-3 : tie.Need-returns-3
 unfolding onEvent
-returns-3 c = rw (c .before .before .event3 .given .1) (c .on-clocks .ensures)
+returns-3 c = rw (c .before .before .before .event3 .given .1) (rw (c .before .on-clocks .ensures) at (c .with-controller3 .ensures))
 
 returns-4 : tie.Need-returns-4
 unfolding onEvent
-returns-4 c = rw (c .before .enum-told .given .1) (c .on-strike .ensures)
+returns-4 c = rw (c .before .before .enum-told .given .1) (rw (c .before .on-strike .ensures) at (c .with-controller4 .ensures))
 
 returns-5 : tie.Need-returns-5
 unfolding onEvent
@@ -103,22 +103,24 @@ returns-8 c = rw (c .before .before .event7 .given .1) (c .on-levels .ensures)
 
 returns-9 : tie.Need-returns-9
 unfolding onEvent
-returns-9 c = rw (c .before .before .before .enum-told2 .given .1) (rw (c .before .located-answer .ensures, c .before .before .locate .ensures) at (c .with-controller2 .ensures))
+returns-9 c = rw (c .before .enum-told2 .given .1) (c .on-locate .ensures)
 
 pub on-event-spec : {M : Type 1} → statement M
 on-event-spec =
     tie.close
     (tie.spec
     enum-known-event
-    write-requires
-    plain-requires
+    on-write-requires
     with-controller-requires
     enum-known-event-2
     on-read-requires
+    with-controller-requires-2
     enum-known-event-3
     on-clocks-requires
+    with-controller-requires-3
     enum-told
     on-strike-requires
+    with-controller-requires-4
     enum-known-event-4
     on-reset-requires
     enum-known-event-5
@@ -128,9 +130,7 @@ on-event-spec =
     enum-known-event-7
     on-levels-requires
     enum-told-2
-    locate-requires
-    located-answer-requires
-    with-controller-requires-2
+    on-locate-requires
     returns
     returns-2
     returns-3

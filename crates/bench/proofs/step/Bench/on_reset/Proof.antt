@@ -17,18 +17,15 @@ returns : tie.Need-returns
 unfolding onReset
 returns c = if-yes _ _ _ _ (c .before .before .before .if1 .taken) (rw (c .before .plain .ensures, c .before .before .reset .ensures) at (c .with-multiplexer .ensures))
 
-reset-requires-2 : tie.Need-reset-requires-2
-reset-requires-2 c κs = search needs
-
-plain-requires-2 : tie.Need-plain-requires-2
-plain-requires-2 c κs = search needs
+on-reset-requires : tie.Need-on-reset-requires
+on-reset-requires c κs = search needs
 
 with-controller-requires : tie.Need-with-controller-requires
 with-controller-requires c κs = search needs
 
 returns-2 : tie.Need-returns-2
 unfolding onReset
-returns-2 c = if-no _ _ _ _ (c .before .before .before .if1 .left) (rw (c .before .plain2 .ensures, c .before .before .reset2 .ensures) at (c .with-controller .ensures))
+returns-2 c = if-no _ _ _ _ (c .before .before .if1 .left) (rw (c .before .on-reset .ensures) at (c .with-controller .ensures))
 
 pub on-reset-spec : {M : Type 1} → statement M
 on-reset-spec =
@@ -38,7 +35,6 @@ on-reset-spec =
     plain-requires
     with-multiplexer-requires
     returns
-    reset-requires-2
-    plain-requires-2
+    on-reset-requires
     with-controller-requires
     returns-2)

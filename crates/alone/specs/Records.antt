@@ -1,0 +1,38 @@
+-- Whole records on a controller that stands alone (document 01, kinds 1, 3 and 4 of the table of kinds). That they do the same on the
+-- bench is said, and shown, in the crate `bench`.
+use Prim.Native.Nat.{ℕ}
+use Rattle.basics.specs.Choice.{if_then_else_}
+use Rattle.answer.specs.Answer.{plainOf}
+use Rattle.controller.specs.declared.chip.Controller.{Controller}
+use Rattle.record.specs.Decode.{decodeOf, numberOf}
+use Rattle.record.specs.declared.event.Event.{Event}
+use Rattle.record.specs.declared.event.Event.the-variants.{Write, Read, Clocks, Strike, Reset, Cycle, Fetches, Levels, Locate}
+use Rattle.record.specs.declared.kinds.Decoded.{Decoded}
+use Rattle.record.specs.declared.kinds.Decoded.the-variants.{Known, Refused}
+use Rattle.alone.specs.Events.{told, onWrite, onRead, onClocks, onStrike, onReset}
+use Rattle.alone.specs.declared.events.Told.{Told}
+
+-- an event that is for another chip: the controller stays as it is, and no body byte is its own
+abbrev pub idle : Controller → ℕ → Told
+idle c kind = told c (plainOf kind 0)
+
+-- a known event, as far as it is the controller's
+unfoldable pub onEvent : Controller → ℕ → Event → Told
+onEvent c kind (Write rs value) = onWrite c kind rs value
+onEvent c kind (Read rs) = onRead c kind rs
+onEvent c kind (Clocks n) = onClocks c kind n
+onEvent c kind Strike = onStrike c kind
+onEvent c kind (Reset multiplexer) = if multiplexer then idle c kind else onReset c kind
+onEvent c kind (Cycle address read) = idle c kind
+onEvent c kind (Fetches n) = idle c kind
+onEvent c kind (Levels hs da0) = idle c kind
+onEvent c kind Locate = idle c kind
+
+-- a decoded record: its event is done; or it is refused, with its number and a zero body, and the controller does not change
+unfoldable pub onDecoded : Controller → ℕ → Decoded → Told
+onDecoded c kind (Known event) = onEvent c kind event
+onDecoded c kind (Refused refusal) = told c (plainOf kind (numberOf (Refused refusal)))
+
+-- a record: decoded before the controller sees it
+unfoldable pub aloneOf : ℕ → Controller → ℕ → ℕ → ℕ → Told
+aloneOf kind c hi lo value = onDecoded c kind (decodeOf kind hi lo value)
