@@ -21,12 +21,17 @@ use Rattle.raster.proofs.scan.Scan.next.Reads as raster·next
 use Rattle.raster.proofs.sync.Sync.arrive.Reads as raster·arrive
 use Rattle.facts.proofs.facts.Facts.at.Reads as facts·at
 use Rattle.facts.proofs.picture.Reads as facts·picture
-use Rattle.facts.proofs.address.Reads as facts·address
 use Rattle.facts.proofs.ma.Reads as facts·ma
-use Rattle.facts.proofs.latched.Reads as facts·latched
 use Rattle.facts.proofs.latch.Reads as facts·latch
 use Rattle.facts.proofs.cursor.Reads as facts·cursor
+use Rattle.pen.proofs.pen.Pen.none.Reads as pen·none
+use Rattle.pen.proofs.pen.Pen.struck.Reads as pen·struck
+use Rattle.pen.proofs.pen.Pen.emptied.Reads as pen·emptied
+use Rattle.pen.proofs.pen.Pen.holds.Reads as pen·holds
+use Rattle.pen.proofs.pen.Pen.newest.Reads as pen·newest
+use Rattle.pen.proofs.pen.Pen.unread.Reads as pen·unread
 use Rattle.clocks.proofs.place.Place.walk.Reads as clocks·walk
+use Rattle.controller.proofs.pins.Outputs.bytes.Reads as controller·bytes
 use Rattle.controller.proofs.chip.Controller.fresh.Reads as controller·fresh
 use Rattle.controller.proofs.chip.Controller.reset.Reads as controller·reset
 use Rattle.controller.proofs.chip.Controller.write.Reads as controller·write
@@ -34,6 +39,7 @@ use Rattle.controller.proofs.chip.Controller.clock.Reads as controller·clock
 use Rattle.controller.proofs.chip.Controller.strike.Reads as controller·strike
 use Rattle.controller.proofs.chip.Controller.outputs.Reads as controller·outputs
 use Rattle.controller.proofs.chip.Controller.read.Reads as controller·read
+use Rattle.controller.proofs.kept.Reads as controller·kept
 use Rattle.locator.proofs.answer.Located.refusal.Reads as locator·refusal
 use Rattle.locator.proofs.answer.Located.cell.Reads as locator·cell
 use Rattle.locator.proofs.locate.Reads as locator·locate
@@ -66,24 +72,30 @@ use Rattle.record.proofs.kinds.Decoded.number.Reads as record·number
 use Rattle.answer.proofs.Answer.done.Reads as answer·done
 use Rattle.answer.proofs.Answer.plain.Reads as answer·plain
 use Rattle.answer.proofs.Answer.bytes.Reads as answer·bytes
+use Rattle.alone.proofs.on_write.Reads as alone·on-write
+use Rattle.alone.proofs.on_read.Reads as alone·on-read
+use Rattle.alone.proofs.on_clocks.Reads as alone·on-clocks
+use Rattle.alone.proofs.on_strike.Reads as alone·on-strike
+use Rattle.alone.proofs.on_reset.Reads as alone·on-reset
+use Rattle.alone.proofs.write.Reads as alone·write
+use Rattle.alone.proofs.clock.Reads as alone·clock
+use Rattle.alone.proofs.strike.Reads as alone·strike
 use Rattle.text.proofs.put_hex.Reads as text·put-hex
 use Rattle.text.proofs.said.Reads as text·said
-use Rattle.bodies.proofs.read_answer.Reads as bodies·read-answer
-use Rattle.bodies.proofs.time_answer.Reads as bodies·time-answer
-use Rattle.bodies.proofs.strike_answer.Reads as bodies·strike-answer
 use Rattle.bodies.proofs.bus_answer.Reads as bodies·bus-answer
 use Rattle.bodies.proofs.shown_answer.Reads as bodies·shown-answer
 use Rattle.bodies.proofs.levels_answer.Reads as bodies·levels-answer
 use Rattle.bodies.proofs.located_answer.Reads as bodies·located-answer
-use Rattle.bench.proofs.write.Reads as bench·write
-use Rattle.bench.proofs.clock.Reads as bench·clock
-use Rattle.bench.proofs.strike.Reads as bench·strike
 use Rattle.bench.proofs.step.Bench.step.Reads as bench·step
 use Rattle.replay.proofs.unread_rest.Reads as replay·unread-rest
 use Rattle.replay.proofs.replay.Reads as replay·replay
 use Rattle.lister.proofs.list.Reads as lister·list
 use Rattle.lister.proofs.room.Reads as lister·room
+use Rattle.exports.proofs.controller_fresh.Reads as exports·controller-fresh
 use Rattle.exports.proofs.controller_reset.Reads as exports·controller-reset
+use Rattle.exports.proofs.controller_write.Reads as exports·controller-write
+use Rattle.exports.proofs.controller_read.Reads as exports·controller-read
+use Rattle.exports.proofs.controller_outputs.Reads as exports·controller-outputs
 use Rattle.exports.proofs.controller_clock.Reads as exports·controller-clock
 use Rattle.exports.proofs.controller_strike.Reads as exports·controller-strike
 use Rattle.exports.proofs.controller_locate.Reads as exports·controller-locate
@@ -137,14 +149,8 @@ facts-at κs a x y s t p q = one-answer p q
 pub facts-picture : OneAnswer facts·picture.Post (λ κs r s. r)
 facts-picture κs a x y s t p q = one-answer p q
 
-pub facts-address : OneAnswer facts·address.Post (λ κs r s. r)
-facts-address κs a x y s t p q = one-answer p q
-
 pub facts-ma : OneAnswer facts·ma.Post (λ κs r s. r)
 facts-ma κs a x y s t p q = one-answer p q
-
-pub facts-latched : OneAnswer facts·latched.Post (λ κs r s. r)
-facts-latched κs a x y s t p q = one-answer p q
 
 pub facts-latch : OneAnswer facts·latch.Post (λ κs r s. r)
 facts-latch κs a x y s t p q = one-answer p q
@@ -152,8 +158,29 @@ facts-latch κs a x y s t p q = one-answer p q
 pub facts-cursor : OneAnswer facts·cursor.Post (λ κs r s. r)
 facts-cursor κs a x y s t p q = one-answer p q
 
+pub pen-none : OneAnswer pen·none.Post (λ κs r s. r)
+pen-none κs a x y s t p q = one-answer p q
+
+pub pen-struck : OneAnswer pen·struck.Post (λ κs r s. r)
+pen-struck κs a x y s t p q = one-answer p q
+
+pub pen-emptied : OneAnswer pen·emptied.Post (λ κs r s. r)
+pen-emptied κs a x y s t p q = one-answer p q
+
+pub pen-holds : OneAnswer pen·holds.Post (λ κs r s. r)
+pen-holds κs a x y s t p q = one-answer p q
+
+pub pen-newest : OneAnswer pen·newest.Post (λ κs r s. r)
+pen-newest κs a x y s t p q = one-answer p q
+
+pub pen-unread : OneAnswer pen·unread.Post (λ κs r s. r)
+pen-unread κs a x y s t p q = one-answer p q
+
 pub clocks-walk : OneAnswer clocks·walk.Post (λ κs r s. r)
 clocks-walk κs a x y s t p q = one-answer p q
+
+pub controller-bytes : OneAnswer controller·bytes.Post (λ κs r s. r)
+controller-bytes κs a x y s t p q = one-answer p q
 
 pub controller-fresh : OneAnswer controller·fresh.Post (λ κs r s. r)
 controller-fresh κs a x y s t p q = one-answer p q
@@ -175,6 +202,9 @@ controller-outputs κs a x y s t p q = one-answer p q
 
 pub controller-read : OneAnswer controller·read.Post (λ κs r s. r)
 controller-read κs a x y s t p q = one-answer p q
+
+pub controller-kept : OneAnswer controller·kept.Post (λ κs r s. r)
+controller-kept κs a x y s t p q = one-answer p q
 
 pub locator-refusal : OneAnswer locator·refusal.Post (λ κs r s. r)
 locator-refusal κs a x y s t p q = one-answer p q
@@ -272,20 +302,35 @@ answer-plain κs a x y s t p q = one-answer p q
 pub answer-bytes : OneAnswer answer·bytes.Post (λ κs r s. r)
 answer-bytes κs a x y s t p q = one-answer p q
 
+pub alone-on-write : OneAnswer alone·on-write.Post (λ κs r s. r)
+alone-on-write κs a x y s t p q = one-answer p q
+
+pub alone-on-read : OneAnswer alone·on-read.Post (λ κs r s. r)
+alone-on-read κs a x y s t p q = one-answer p q
+
+pub alone-on-clocks : OneAnswer alone·on-clocks.Post (λ κs r s. r)
+alone-on-clocks κs a x y s t p q = one-answer p q
+
+pub alone-on-strike : OneAnswer alone·on-strike.Post (λ κs r s. r)
+alone-on-strike κs a x y s t p q = one-answer p q
+
+pub alone-on-reset : OneAnswer alone·on-reset.Post (λ κs r s. r)
+alone-on-reset κs a x y s t p q = one-answer p q
+
+pub alone-write : OneAnswer alone·write.Post (λ κs r s. r)
+alone-write κs a x y s t p q = one-answer p q
+
+pub alone-clock : OneAnswer alone·clock.Post (λ κs r s. r)
+alone-clock κs a x y s t p q = one-answer p q
+
+pub alone-strike : OneAnswer alone·strike.Post (λ κs r s. r)
+alone-strike κs a x y s t p q = one-answer p q
+
 pub text-put-hex : OneAnswer text·put-hex.Post (λ κs r s. r beside now (s .0) beside now (s .1 .1 .0))
 text-put-hex κs a x y s t p q = one-answer (p .0) (q .0) and one-answer (p .1 .0) (q .1 .0) and one-answer (p .1 .1) (q .1 .1)
 
 pub text-said : OneAnswer text·said.Post (λ κs r s. r beside now (s .1 .0))
 text-said κs a x y s t p q = one-answer (p .0) (q .0) and one-answer (p .1 .1) (q .1 .1)
-
-pub bodies-read-answer : OneAnswer bodies·read-answer.Post (λ κs r s. r)
-bodies-read-answer κs a x y s t p q = one-answer p q
-
-pub bodies-time-answer : OneAnswer bodies·time-answer.Post (λ κs r s. r)
-bodies-time-answer κs a x y s t p q = one-answer p q
-
-pub bodies-strike-answer : OneAnswer bodies·strike-answer.Post (λ κs r s. r)
-bodies-strike-answer κs a x y s t p q = one-answer p q
 
 pub bodies-bus-answer : OneAnswer bodies·bus-answer.Post (λ κs r s. r)
 bodies-bus-answer κs a x y s t p q = one-answer p q
@@ -298,15 +343,6 @@ bodies-levels-answer κs a x y s t p q = one-answer p q
 
 pub bodies-located-answer : OneAnswer bodies·located-answer.Post (λ κs r s. r)
 bodies-located-answer κs a x y s t p q = one-answer p q
-
-pub bench-write : OneAnswer bench·write.Post (λ κs r s. r)
-bench-write κs a x y s t p q = one-answer p q
-
-pub bench-clock : OneAnswer bench·clock.Post (λ κs r s. r)
-bench-clock κs a x y s t p q = one-answer p q
-
-pub bench-strike : OneAnswer bench·strike.Post (λ κs r s. r)
-bench-strike κs a x y s t p q = one-answer p q
 
 pub bench-step : OneAnswer bench·step.Post (λ κs r s. r)
 bench-step κs a x y s t p q = one-answer p q
@@ -323,8 +359,20 @@ lister-list κs a x y s t p q = one-answer (p .0) (q .0) and one-answer (p .1 .0
 pub lister-room : OneAnswer lister·room.Post (λ κs r s. r beside now (s .1 .0) beside now (s .0))
 lister-room κs a x y s t p q = one-answer (p .0) (q .0) and one-answer (p .1 .0) (q .1 .0) and one-answer (p .1 .1 .1) (q .1 .1 .1)
 
+pub exports-controller-fresh : OneAnswer exports·controller-fresh.Post (λ κs r s. r)
+exports-controller-fresh κs a x y s t p q = one-answer p q
+
 pub exports-controller-reset : OneAnswer exports·controller-reset.Post (λ κs r s. r)
 exports-controller-reset κs a x y s t p q = one-answer p q
+
+pub exports-controller-write : OneAnswer exports·controller-write.Post (λ κs r s. r)
+exports-controller-write κs a x y s t p q = one-answer p q
+
+pub exports-controller-read : OneAnswer exports·controller-read.Post (λ κs r s. r)
+exports-controller-read κs a x y s t p q = one-answer p q
+
+pub exports-controller-outputs : OneAnswer exports·controller-outputs.Post (λ κs r s. r)
+exports-controller-outputs κs a x y s t p q = one-answer p q
 
 pub exports-controller-clock : OneAnswer exports·controller-clock.Post (λ κs r s. r)
 exports-controller-clock κs a x y s t p q = one-answer p q
