@@ -10,7 +10,7 @@ from checks import antt
 
 # By their paths: the first digits of the sum of all words outside comments.
 SUMS = {
-    "crates/basics/specs/Lay.antt": "755429438186ecdb",
+    "crates/basics/specs/Lay.antt": "d0e6a02ab0eb07a4",
     "crates/bench/specs/Alone.antt": "0f54041a5da8d136",
     "crates/bench/specs/Refusals.antt": "235387d299e3a0ae",
     "crates/control/specs/Write.antt": "4533074153fd6436",

@@ -7,6 +7,7 @@ use denote.Ref.{now}
 use Rattle.basics.proofs.Alike.{one-answer, _then_}
 use Rattle.answers.specs.OneAnswer.{OneAnswer, OneOutcome, OnePart}
 use Rattle.basics.proofs.flag.Reads as basics·flag
+use Rattle.basics.proofs.has_room.Reads as basics·has-room
 use Rattle.basics.proofs.high.Reads as basics·high
 use Rattle.basics.proofs.low.Reads as basics·low
 use Rattle.basics.proofs.number.Reads as basics·number
@@ -68,6 +69,7 @@ use Rattle.answer.proofs.Answer.bytes.Reads as answer·bytes
 use Rattle.answer.proofs.Answer.done.Reads as answer·done
 use Rattle.answer.proofs.Answer.plain.Reads as answer·plain
 use Rattle.text.proofs.put_hex.Reads as text·put-hex
+use Rattle.text.proofs.put_lines.Reads as text·put-lines
 use Rattle.text.proofs.said.Reads as text·said
 use Rattle.bodies.proofs.bus_answer.Reads as bodies·bus-answer
 use Rattle.bodies.proofs.levels_answer.Reads as bodies·levels-answer
@@ -82,8 +84,9 @@ use Rattle.bench.proofs.strike.Reads as bench·strike
 use Rattle.bench.proofs.write.Reads as bench·write
 use Rattle.replay.proofs.replay.Reads as replay·replay
 use Rattle.replay.proofs.unread_rest.Reads as replay·unread-rest
+use Rattle.batch.proofs.replay_fresh.Reads as batch·replay-fresh
 use Rattle.lister.proofs.list.Reads as lister·list
-use Rattle.lister.proofs.room.Reads as lister·room
+use Rattle.rooms_text.proofs.room.Reads as rooms-text·room
 use Rattle.exports.proofs.controller_clock.Reads as exports·controller-clock
 use Rattle.exports.proofs.controller_locate.Reads as exports·controller-locate
 use Rattle.exports.proofs.controller_reset.Reads as exports·controller-reset
@@ -92,6 +95,9 @@ use Rattle.exports.proofs.display_fetches.Reads as exports·display-fetches
 
 pub basics-flag : OneAnswer basics·flag.Post
 basics-flag κs a x y s t p q = one-answer (p .0) (q .0)
+
+pub basics-has-room : OneAnswer basics·has-room.Post
+basics-has-room κs a x y s t p q = one-answer p q
 
 pub basics-high : OneAnswer basics·high.Post
 basics-high κs a x y s t p q = one-answer p q
@@ -103,7 +109,7 @@ pub basics-number : OneAnswer basics·number.Post
 basics-number κs a x y s t p q = one-answer p q
 
 pub basics-put : OneOutcome basics·put.Post (λ κs s. now (s .0) ∷ now (s .1 .1 .0) ∷ [])
-basics-put κs a x y s t p q = (one-answer (p .0) (q .0), one-answer (p .1 .0) (q .1 .0) then one-answer (p .1 .1) (q .1 .1) then refl)
+basics-put κs a x y s t p q = (one-answer (p .0) (q .0), one-answer (p .1 .0) (q .1 .0) then one-answer (p .1 .1 .0) (q .1 .1 .0) then refl)
 
 pub basics-counted : OneAnswer basics·counted.Post
 basics-counted κs a x y s t p q = one-answer p q
@@ -274,7 +280,10 @@ pub answer-plain : OneAnswer answer·plain.Post
 answer-plain κs a x y s t p q = one-answer p q
 
 pub text-put-hex : OneOutcome text·put-hex.Post (λ κs s. now (s .0) ∷ now (s .1 .1 .0) ∷ [])
-text-put-hex κs a x y s t p q = (one-answer (p .0) (q .0), one-answer (p .1 .0) (q .1 .0) then one-answer (p .1 .1) (q .1 .1) then refl)
+text-put-hex κs a x y s t p q = (one-answer (p .0) (q .0), one-answer (p .1 .0) (q .1 .0) then one-answer (p .1 .1 .0) (q .1 .1 .0) then refl)
+
+pub text-put-lines : OneOutcome text·put-lines.Post (λ κs s. now (s .0) ∷ now (s .1 .1 .0) ∷ [])
+text-put-lines κs a x y s t p q = (one-answer (p .0) (q .0), one-answer (p .1 .0) (q .1 .0) then one-answer (p .1 .1 .0) (q .1 .1 .0) then refl)
 
 pub text-said : OneOutcome text·said.Post (λ κs s. now (s .1 .0) ∷ [])
 text-said κs a x y s t p q = (one-answer (p .0) (q .0), one-answer (p .1 .1) (q .1 .1) then refl)
@@ -318,11 +327,14 @@ replay-replay κs a x y s t p q = (one-answer (p .0) (q .0), one-answer (p .1 .0
 pub replay-unread-rest : OnePart replay·unread-rest.Post (λ κs r. now r) (λ κs r. r .ptr) (λ κs s. now (s .0) ∷ [])
 replay-unread-rest κs a x y s t p q = (one-answer (p .0) (q .0), one-answer (p .1 .0) (q .1 .0), one-answer (p .1 .1) (q .1 .1) then refl)
 
+pub batch-replay-fresh : OneOutcome batch·replay-fresh.Post (λ κs s. now (s .1 .0) ∷ now (s .0) ∷ [])
+batch-replay-fresh κs a x y s t p q = (one-answer (p .0) (q .0), one-answer (p .1 .0) (q .1 .0) then one-answer (p .1 .1 .0) (q .1 .1 .0) then refl)
+
 pub lister-list : OneOutcome lister·list.Post (λ κs s. now (s .1 .0) ∷ now (s .0) ∷ [])
 lister-list κs a x y s t p q = (one-answer (p .0) (q .0), one-answer (p .1 .0) (q .1 .0) then one-answer (p .1 .1 .1) (q .1 .1 .1) then refl)
 
-pub lister-room : OneOutcome lister·room.Post (λ κs s. now (s .1 .0) ∷ now (s .0) ∷ [])
-lister-room κs a x y s t p q = (one-answer (p .0) (q .0), one-answer (p .1 .0) (q .1 .0) then one-answer (p .1 .1 .1) (q .1 .1 .1) then refl)
+pub rooms-text-room : OneOutcome rooms-text·room.Post (λ κs s. now (s .1 .0) ∷ now (s .0) ∷ [])
+rooms-text-room κs a x y s t p q = (one-answer (p .0) (q .0), one-answer (p .1 .0) (q .1 .0) then one-answer (p .1 .1 .1) (q .1 .1 .1) then refl)
 
 pub exports-controller-clock : OneAnswer exports·controller-clock.Post
 exports-controller-clock κs a x y s t p q = one-answer p q
