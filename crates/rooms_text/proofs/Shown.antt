@@ -22,11 +22,12 @@ use Rattle.text.proofs.Lining.{length-lines}
 use Rattle.rooms_text.specs.Rooms.{roomOf, countsOf, ranTextOf, shownOf, noRoom, headBytes, roomTextOf, roomTextLength}
 
 -- the counts and then the whole output, of what a replay gave
-pub shows : {t u s out′ : List ℕ} {p q : ℕ} {r : Replayed} (batch out : List ℕ) → r ≡ returnedOf (freshRunOf batch (length out))
-    → out′ ≡ laidAt out 0 (writtenOf (freshRunOf batch (length out) .answers)) → Writes t u 0 p (linesOf (countsOf (r .ending) (r .taken) (r .answers)))
+pub shows : {t u s out′ told : List ℕ} {p q : ℕ} {r : Replayed} (batch out : List ℕ) → r ≡ returnedOf (freshRunOf batch (length out))
+    → out′ ≡ laidAt out 0 (writtenOf (freshRunOf batch (length out) .answers)) → told ≡ countsOf (r .ending) (r .taken) (r .answers)
+    → Writes t u 0 p (linesOf told)
     → Writes u s p q (linesOf out′) → Writes t s 0 q (shownOf batch out)
 unfolding shownOf ranTextOf
-shows batch out returned output a b = then-writes (rw returned at a) (rw output at b)
+shows batch out returned output counts a b = then-writes (rw (counts, returned) at a) (rw output at b)
 
 -- the front of an array that holds one byte throughout
 pub front : (n m a : ℕ) → n ≤ m → take n (replicate m a) ≡ replicate n a

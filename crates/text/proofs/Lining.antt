@@ -39,9 +39,9 @@ module _ (f : List ℕ → List ℕ) where
       rw (← k, ← drop-drop (perLine * n) perLine bytes, append-assoc) (ap (λ (l : List ℕ). f (rowAt 0 bytes) ++ l) (rows-suc n (drop perLine bytes)))
 
   -- a turn of a loop over the lines
-  pub writes-row : {t u s : List ℕ} {p q r : ℕ} {part : List ℕ} (i : ℕ) (bytes : List ℕ) → part ≡ rowAt i bytes → Writes t u p q (rowsOf f i bytes)
-      → Writes u s q r (f part) → Writes t s p r (rowsOf f (i + 1) bytes)
-  writes-row i bytes e before row = rw (add-one, rows-suc i bytes, ← e) (then-writes before row)
+  pub writes-row : {t u s : List ℕ} {p q r : ℕ} {part : List ℕ} (i : ℕ) (bytes : List ℕ) → Writes t u p q (rowsOf f i bytes) → Writes u s q r (f part)
+      → part ≡ rowAt i bytes → Writes t s p r (rowsOf f (i + 1) bytes)
+  writes-row i bytes before row e = rw (add-one, rows-suc i bytes, ← e) (then-writes before row)
 
 -- how long lines are
 pub length-line : (bytes : List ℕ) → length (lineOf bytes) ≡ 2 * length bytes + 1

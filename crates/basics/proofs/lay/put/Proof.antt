@@ -5,7 +5,8 @@ use denote.Ref.{now}
 use lib.ListN.{length}
 use borrow.Author.Needs.{needs}
 use borrow.Author.Tests.{leb-true, leb-false}
-use Rattle.basics.proofs.Laying.{put-laid, put-nothing}
+use Rattle.basics.proofs.Cases.{cases}
+use Rattle.basics.proofs.Laying.{put-nothing}
 use Rattle.basics.proofs.lay.put.Statement.{statement}
 use Rattle.basics.proofs.lay.put.Tie as tie
 
@@ -28,7 +29,8 @@ same-length c = search needs
 returns : tie.Need-returns
 returns c =
     let laid = c .before .before in
-    put-laid (record { place = refl; fits = room (laid .before .before); holds = laid .lay .ensures })
+    let fits = room (laid .before .before) in
+    (search cases depth 9, (search cases depth 9, (refl, λ h. record { place = refl; fits = fits; holds = laid .lay .ensures })))
 
 returns-2 : tie.Need-returns-2
 returns-2 c =

@@ -52,7 +52,7 @@ loop-again c =
     let l = turn .loop in
     let answers = now (turn .before .before .before .args .answers) in
     let part = row-part answers (l .i) (perLine * l .i + perLine) (omega arith) (omega arith) in
-    (omega arith, lined .line .kept .0 ∙ l .inv .1, writes-row markedOf (l .i) answers part (l .inv .2) (lined .line .ensures))
+    (omega arith, lined .line .kept .0 ∙ l .inv .1, writes-row markedOf (l .i) answers (l .inv .2) (lined .line .ensures) part)
 
 same-length : tie.Need-same-length Inv-loop μ-loop
 same-length c = c .before .loop .inv .1

@@ -40,7 +40,7 @@ returns c =
     let replayed = told .before .before .before .before .before in
     let a = replayed .before .before .before .before .before .args in
     let r = replayed .replay-fresh .ensures in
-    shows (now (a .batch)) (now (a .out)) (r .0) (r .1 .0) (rw (told .counts .ensures) at (lined .put-lines .ensures .1 .1 .1)) (outputs .put-lines2 .ensures .1 .1 .1)
+    shows (now (a .batch)) (now (a .out)) (r .0) (r .1 .0) (told .counts .ensures) (lined .put-lines .ensures .1 .1 .1) (outputs .put-lines2 .ensures .1 .1 .1)
 
 pub shown-spec : {M : Type 1} → statement M
 shown-spec =

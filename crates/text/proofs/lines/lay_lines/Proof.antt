@@ -53,7 +53,7 @@ loop-again c =
     let l = turn .loop in
     let bytes = now (turn .before .before .before .args .bytes) in
     let part = row-part bytes (l .i) (ended .line-end .result) (omega arith) (ended .line-end .ensures) in
-    (omega arith, lined .line .kept .0 ∙ l .inv .1, writes-row lineOf (l .i) bytes part (l .inv .2) (lined .line .ensures))
+    (omega arith, lined .line .kept .0 ∙ l .inv .1, writes-row lineOf (l .i) bytes (l .inv .2) (lined .line .ensures) part)
 
 same-length : tie.Need-same-length Inv-loop μ-loop
 same-length c = c .before .loop .inv .1
