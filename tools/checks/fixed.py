@@ -55,7 +55,7 @@ use text::said;
 fn main() {
     let mut none = [0u8; 1];
     let readable = libc::read(STDIN_FILENO, &mut none[..0]) >= 0;
-    let mut input = [0u8; 4097];
+    let mut input = [0u8; lister::INPUT + 1];
     let n = io::read_full(STDIN_FILENO, &mut input);
     let mut text = [0u8; lister::TEXT];
     let k = lister::list(&input[..n], &mut text);
@@ -68,8 +68,8 @@ fn main() {
 }
 """
 
-# The programs whose own code decides nothing, each by its words. Rooms reads two bytes more, and has another function make the text.
-PROGRAMS = {"listing": LISTING, "rooms": LISTING.replace("[0u8; 4097]", "[0u8; 4099]").replace("lister::list(", "lister::room(")}
+# The programs whose own code decides nothing, each by its words. They differ in the function that makes the text, and in its crate.
+PROGRAMS = {"listing": LISTING, "rooms": LISTING.replace("lister::list(", "lister::room(").replace("lister::", "rooms_text::")}
 
 
 def definitions_fault(text, due):

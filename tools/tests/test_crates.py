@@ -58,7 +58,7 @@ class Programs(ContractsTest):
         self.files["crates/rooms/src/main.rt"] = fixed.PROGRAMS["rooms"]
         self.assertRight()
         self.files["crates/rooms/src/main.rt"] = fixed.LISTING
-        self.assertWrong("rooms decides nothing, so it is held to its words: line 9: `4097 ]")
+        self.assertWrong("rooms decides nothing, so it is held to its words: line 9: `lister :: INPUT")
 
     def test_a_public_function(self):
         self.files[self.MAIN] += "pub fn offered() -> u8 {\n    1\n}\n"

@@ -1,6 +1,7 @@
 -- Laws of `laidAt` and `putAt`: layings one after the other. Assumes nothing.
 use Prim.Native.Nat.{ℕ, _+_, _≤_, _<_}
 use mathlib.Core.Path.{_≡_, refl, sym, ap, _∙_}
+use mathlib.Core.Logic.{_↔_, ⊎-elim}
 use mathlib.Core.List.{List, [], _∷_, _++_, append-assoc, append-nil}
 use native.Mathlib.Nat.{add-zero, zero-add}
 use native.Mathlib.Numerals.{add-one}
@@ -8,8 +9,9 @@ use native.Mathlib.Omega.{arith}
 use borrow.Author.Tests.{le-leb, lt-leb}
 use lib.ListN.{length, getD, set, take, drop, length-append, length-take, length-drop, take-append-drop}
 use lib.Seq.{take-at, drop-at, drop-drop, sets, sets-eq, take-suc}
-use Rattle.basics.specs.Lay.{laidAt, fitsAt, putAt, Laid}
+use Rattle.basics.specs.Lay.{laidAt, fitsAt, putAt, behindOf, Laid, Writes}
 use Rattle.basics.proofs.Cases.{if-yes, if-no}
+use Rattle.basics.proofs.Tests.{lt-or-ge}
 
 module _ (t : List ℕ) (p : ℕ) where
   -- laying what has room keeps the buffer's length
@@ -46,6 +48,13 @@ module _ (t : List ℕ) (p : ℕ) where
   pub put-not : (w : List ℕ) → length t < p + length w → putAt t p w ≡ t
   put-not w h = sym (if-no (fitsAt t p w) (laidAt t p w) t t (lt-leb (p + length w) (length t) h) refl)
 
+  -- and so its place
+  pub behind-fits : (w : List ℕ) → p + length w ≤ length t → behindOf t p w ≡ p + length w
+  behind-fits w h = sym (if-yes (fitsAt t p w) (p + length w) p (p + length w) (le-leb (p + length w) (length t) h) refl)
+
+  pub behind-not : (w : List ℕ) → length t < p + length w → behindOf t p w ≡ p
+  behind-not w h = sym (if-no (fitsAt t p w) (p + length w) p p (lt-leb (p + length w) (length t) h) refl)
+
 -- a store with room, behind what is laid already
 pub laid-put : (t : List ℕ) (p : ℕ) (v w : List ℕ) (q : ℕ) → q ≡ p + length v → q + length w ≤ length t → putAt (laidAt t p v) q w ≡ laidAt t p (v ++ w)
 laid-put t p v w q e h =
@@ -67,26 +76,53 @@ laid-front t w = rw zero-add
 pub take-next : (s : List ℕ) (i : ℕ) → i < length s → take (i + 1) s ≡ take i s ++ (getD s i 0 ∷ [])
 take-next s i h = rw add-one (take-suc s i 0 h)
 
--- a store with room, as the next writer sees it
-pub laid-by-put : {t u : List ℕ} {p q m : ℕ} {w : List ℕ} → q ≡ p + length w → q ≤ p + m → q ≤ length t → u ≡ putAt t p w → Laid t u p q m w
-laid-by-put {t} {u} {p} {q} {m} {w} e h f s = record { place = e; most = h; fits = f; holds = s ∙ put-fits t p w (omega arith) }
-
--- nothing laid yet
-pub laid-nothing : {t : List ℕ} {p m : ℕ} → p ≤ length t → Laid t t p p m []
-laid-nothing {t} {p} {m} h = record { place = omega arith; most = omega arith; fits = h; holds = sym (laid-none t p) }
-
--- no more than some number is no more than a greater one
-pub laid-within : {t u : List ℕ} {p q m n : ℕ} {w : List ℕ} → m ≤ n → Laid t u p q m w → Laid t u p q n w
-laid-within h a = record { place = a .place; most = omega (arith, a .most); fits = a .fits; holds = a .holds }
+-- a buffer keeps its length
+pub laid-same : {t u : List ℕ} {p q : ℕ} {w : List ℕ} → Laid t u p q w → length u ≡ length t
+laid-same {t} {u} {p} {q} {w} a = ap length (a .holds) ∙ length-laid t p w (omega (arith, a .place, a .fits))
 
 -- two writers one after the other
-pub then-laid : {t u s : List ℕ} {p q r m n : ℕ} {v w : List ℕ} → Laid t u p q m v → Laid u s q r n w → Laid t s p r (m + n) (v ++ w)
-then-laid {t} {u} {s} {p} {q} {r} {m} {n} {v} {w} a b =
-    let len : length u ≡ length t = ap length (a .holds) ∙ length-laid t p v (omega (arith, a .place, a .fits)) in
+pub then-laid : {t u s : List ℕ} {p q r : ℕ} {v w : List ℕ} → Laid t u p q v → Laid u s q r w → Laid t s p r (v ++ w)
+then-laid {t} {u} {s} {p} {q} {r} {v} {w} a b =
+    let len : length u ≡ length t = laid-same a in
     let far : r ≤ length t = omega (arith, b .fits) in
     record {
       place = simp length-append (omega (arith, a .place, b .place));
-      most = omega (arith, a .most, b .most);
       fits = far;
       holds = b .holds ∙ rw (a .holds) (laid-laid t p v w q (a .place) (omega (arith, b .place)));
     }
+
+-- nothing is written without a step
+pub writes-nothing : {t : List ℕ} {p : ℕ} → Writes t t p p []
+writes-nothing {t} {p} = λ room. record { place = omega arith; fits = omega arith; holds = sym (laid-none t p) }
+
+-- two writers one after the other are one writer, of the bytes of both
+pub then-writes : {t u s : List ℕ} {p q r : ℕ} {v w : List ℕ} → Writes t u p q v → Writes u s q r w → Writes t s p r (v ++ w)
+then-writes {t} {u} {s} {p} {q} {r} {v} {w} a b =
+    λ room.
+    let both : length (v ++ w) ≡ length v + length w = length-append v w in
+    let first : Laid t u p q v = a (omega arith) in
+    let len : length u ≡ length t = laid-same first in
+    then-laid first (b (omega (arith, first .place)))
+
+-- What every public writer ensures of its bytes w, for all cases: the place behind them, what the buffer then holds, that another buffer
+-- s is as it was, and what the next writer needs. It has shown it when w is laid,
+pub put-laid : {t u s : List ℕ} {p q : ℕ} {w : List ℕ} → Laid t u p q w → (q ≡ behindOf t p w) × ((u ≡ putAt t p w) × ((s ≡ s) × Writes t u p q w))
+put-laid {t} {u} {s} {p} {q} {w} a =
+    let room : p + length w ≤ length t = omega (arith, a .place, a .fits) in
+    (a .place ∙ sym (behind-fits t p w room), (a .holds ∙ sym (put-fits t p w room), (refl, λ h. a)))
+
+module _ (t : List ℕ) (p : ℕ) (w : List ℕ) where
+  -- or when w has no room and nothing is done
+  pub put-nothing : {s : List ℕ} → length t < p + length w → (p ≡ behindOf t p w) × ((t ≡ putAt t p w) × ((s ≡ s) × Writes t t p p w))
+  put-nothing h = (sym (behind-not t p w h), (sym (put-not t p w h), (refl, λ room. absurd (omega arith))))
+
+  -- bytes, one at least, had no room where the place is given back as it was, and nowhere else
+  pub told-by-place : (q : ℕ) → 1 ≤ length w → q ≡ behindOf t p w → (q ≡ p) ↔ (length t < p + length w)
+  told-by-place q some e = (
+    λ same.
+        ⊎-elim
+        (λ (no : length t < p + length w). no)
+        (λ (room : p + length w ≤ length t). absurd (omega (arith, e ∙ behind-fits t p w room)))
+        (lt-or-ge (length t) (p + length w)),
+    λ no. e ∙ behind-not t p w no,
+  )

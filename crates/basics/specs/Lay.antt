@@ -20,9 +20,17 @@ fitsAt t p w = leb (p + length w) (length t)
 abbrev pub putAt : List ℕ → ℕ → List ℕ → List ℕ
 putAt t p w = if fitsAt t p w then laidAt t p w else t
 
--- What a writer tells the next one: u is t with w laid from p on, behind it is q, and w is at most m long.
-pub record Laid (t u : List ℕ) (p q m : ℕ) (w : List ℕ) : Type 0 where
+-- The place behind w, laid from p on. Decision: where w has no room it is p itself. So a writer that follows needs no test of its own, and
+-- whoever lays at least one byte sees by the place whether it was laid.
+abbrev pub behindOf : List ℕ → ℕ → List ℕ → ℕ
+behindOf t p w = if fitsAt t p w then p + length w else p
+
+-- What a writer tells the next one: u is t with w laid from p on, and behind it is q.
+pub record Laid (t u : List ℕ) (p q : ℕ) (w : List ℕ) : Type 0 where
   pub place : q ≡ p + length w
-  pub most : q ≤ p + m
   pub fits : q ≤ length t
   pub holds : u ≡ laidAt t p w
+
+-- a writer of w: where w has room from p on, it is laid there. Of a buffer that is too short this says nothing.
+abbrev pub Writes : List ℕ → List ℕ → ℕ → ℕ → List ℕ → Type 0
+Writes t u p q w = p + length w ≤ length t → Laid t u p q w

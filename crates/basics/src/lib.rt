@@ -9,5 +9,6 @@ pub use bits::high;
 pub use bits::low;
 pub use bits::number;
 pub use bits::word;
+pub use lay::has_room;
 pub use lay::put;
 pub use width::Width;

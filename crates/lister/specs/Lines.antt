@@ -1,12 +1,13 @@
--- Bytes on lines (document 01, "Records and what comes back", the listing program).
-use Prim.Native.Nat.{ℕ, zero, suc, _%_}
+-- The lines of a listing (document 01, "Records and what comes back", the listing program).
+use Prim.Native.Nat.{ℕ, _+_, _%_}
 use mathlib.Core.Bool.{Bool, true, false, _&&_}
 use mathlib.Core.List.{List, [], _∷_, _++_}
 use lib.Dec.{eqb, leb}
-use lib.ListN.{getD, take, drop}
+use lib.ListN.{length, getD}
 use Rattle.answer.specs.Answer.{bytesOf}
 use Rattle.answer.specs.declared.Answer.{Answer}
 use Rattle.text.specs.Hex.{hexOf}
+use Rattle.text.specs.Lines.{newline, lineLength}
 
 -- the answer that eight bytes are
 abbrev pub answerOf : List ℕ → Answer
@@ -27,22 +28,28 @@ answerOf b =
 unfoldable pub oddOf : Answer → Bool
 oddOf a = eqb (a .kind) 6 && eqb (a .b2 % 2) 1 && leb 1 (a .b0) && leb (a .b0) 6
 
--- the end of a line, behind the mark ` odd` where it is due
+-- ` odd`
+abbrev pub mark : List ℕ
+mark = 32 ∷ 111 ∷ 100 ∷ 100 ∷ []
+
+-- the end of a line, behind the mark where it is due
 abbrev pub lineEndOf : Bool → List ℕ
-lineEndOf true = 32 ∷ 111 ∷ 100 ∷ 100 ∷ 10 ∷ []
-lineEndOf false = 10 ∷ []
+lineEndOf true = mark ++ newline
+lineEndOf false = newline
 
--- bytes as digits on a line of their own
-unfoldable pub lineOf : Bool → List ℕ → List ℕ
-lineOf odd bytes = hexOf bytes ++ lineEndOf odd
+-- eight bytes as digits on a line, marked where an odd answer is on it
+unfoldable pub markedOf : List ℕ → List ℕ
+markedOf bytes = hexOf bytes ++ lineEndOf (oddOf (answerOf bytes))
 
--- so many lines of eight bytes each, marked where an odd answer is on them, or not marked at all
-unfoldable pub linesOf : Bool → ℕ → List ℕ → List ℕ
-linesOf marks zero bytes = []
-linesOf marks (suc n) bytes =
-    lineOf (marks && oddOf (answerOf (take 8 bytes))) (take 8 bytes) ++ linesOf marks n (drop 8 bytes)
+-- no line is longer than this
+abbrev pub markedLength : ℕ
+markedLength = lineLength + length mark
 
 -- each answer on its line
 unfoldable pub answerLinesOf : List Answer → List ℕ
 answerLinesOf [] = []
-answerLinesOf (a ∷ l) = lineOf (oddOf a) (bytesOf a) ++ answerLinesOf l
+answerLinesOf (a ∷ l) = markedOf (bytesOf a) ++ answerLinesOf l
+
+-- `end`, the ending number and the end of the line
+abbrev pub endOf : ℕ → List ℕ
+endOf ending = 101 ∷ 110 ∷ 100 ∷ 32 ∷ (48 + ending) ∷ 10 ∷ []

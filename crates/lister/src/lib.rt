@@ -1,9 +1,7 @@
-// The texts of the two programs: the listing of a batch, and a replay into an output of a chosen size.
+// The text of the program `listing`: each answer of a batch on its line, and the ending.
 mod lines;
 mod listing;
-mod rooms;
-mod words;
 
+pub use listing::INPUT;
+pub use listing::TEXT;
 pub use listing::list;
-pub use rooms::room;
-pub use words::TEXT;

@@ -9,7 +9,7 @@ fn main() {
     // A read of no bytes tells whether there is an input at all: read_full would take a failure for its end.
     let mut none = [0u8; 1];
     let readable = libc::read(STDIN_FILENO, &mut none[..0]) >= 0;
-    let mut input = [0u8; 4097];
+    let mut input = [0u8; lister::INPUT + 1];
     let n = io::read_full(STDIN_FILENO, &mut input);
     let mut text = [0u8; lister::TEXT];
     let k = lister::list(&input[..n], &mut text);

@@ -39,7 +39,7 @@ use Rattle.replay.specs.Laws.{Sound, Runs}
 use Rattle.replay.proofs.Runs.{sound, runs}
 use Rattle.text.specs.Speech.{saidOf}
 use Rattle.lister.specs.Listing.{listingOf}
-use Rattle.lister.specs.Rooms.{roomTextOf}
+use Rattle.rooms_text.specs.Rooms.{roomTextOf}
 use Rattle.settled.specs.Cases.{Settled}
 use Rattle.settled.specs.Premises.{Premises}
 use Rattle.settled.proofs.Table.{table}
@@ -48,7 +48,7 @@ use Rattle.record.proofs.decode.Reads as record·decode
 use Rattle.replay.proofs.replay.Reads as replay·replay
 use Rattle.replay.proofs.unread_rest.Reads as replay·unread-rest
 use Rattle.lister.proofs.list.Reads as lister·list
-use Rattle.lister.proofs.room.Reads as lister·room
+use Rattle.rooms_text.proofs.room.Reads as rooms-text·room
 use Rattle.text.proofs.said.Reads as text·said
 use Rattle.bench.proofs.step.Bench.step.Reads as bench·step
 use Rattle.controller.proofs.chip.Controller.clock.Reads as controller·clock
@@ -96,7 +96,7 @@ rest-place κs a r s p = p .1 .0
 pub listing-text : States lister·list.Post (λ κs a r s. (r ≡ length (listingOf (now (a .0)))) × (now (s .1 .0) ≡ laidAt (now (a .1 .0)) 0 (listingOf (now (a .0)))))
 listing-text κs a r s p = (p .0, p .1 .0)
 
-pub room-text : States lister·room.Post (λ κs a r s. (r ≡ length (roomTextOf (now (a .0)))) × (now (s .1 .0) ≡ laidAt (now (a .1 .0)) 0 (roomTextOf (now (a .0)))))
+pub room-text : States rooms-text·room.Post (λ κs a r s. (r ≡ length (roomTextOf (now (a .0)))) × (now (s .1 .0) ≡ laidAt (now (a .1 .0)) 0 (roomTextOf (now (a .0)))))
 room-text κs a r s p = (p .0, p .1 .0)
 
 pub text-said : States text·said.Post (λ κs a r s. r ≡ saidOf (a .0) (now (a .1 .0)))

@@ -10,10 +10,10 @@ fn main() {
     // A read of no bytes tells whether there is an input at all: read_full would take a failure for its end.
     let mut none = [0u8; 1];
     let readable = libc::read(STDIN_FILENO, &mut none[..0]) >= 0;
-    let mut input = [0u8; 4099];
+    let mut input = [0u8; rooms_text::INPUT + 1];
     let n = io::read_full(STDIN_FILENO, &mut input);
-    let mut text = [0u8; lister::TEXT];
-    let k = lister::room(&input[..n], &mut text);
+    let mut text = [0u8; rooms_text::TEXT];
+    let k = rooms_text::room(&input[..n], &mut text);
     let shown: &[u8] = &text[..k];
     let written = io::write_all(STDOUT_FILENO, &shown[..said(readable, shown)]);
     let unread: &[u8] = b"standard input cannot be read\n";

@@ -1,9 +1,10 @@
 -- Laws of hex digits. Assumes nothing.
-use Prim.Native.Nat.{ℕ, _*_}
-use mathlib.Core.Path.{_≡_, refl, ap}
+use Prim.Native.Nat.{ℕ, _+_, _*_, _<_}
+use mathlib.Core.Path.{_≡_, refl, ap, _∙_}
 use mathlib.Core.List.{List, [], _∷_, _++_}
 use native.Mathlib.Omega.{arith}
-use lib.ListN.{length}
+use lib.ListN.{length, getD, take}
+use Rattle.basics.proofs.Laying.{take-next}
 use Rattle.text.specs.Hex.{pairOf, hexOf}
 
 -- two digits for each byte
@@ -22,7 +23,7 @@ unfolding hexOf pairOf
 hex-append [] bs = refl
 hex-append (x ∷ xs) bs = ap (λ (l : List ℕ). pairOf x ++ l) (hex-append xs bs)
 
--- one byte more
-pub hex-next : (xs : List ℕ) (b : ℕ) → hexOf (xs ++ (b ∷ [])) ≡ hexOf xs ++ pairOf b
+-- the digits of one byte more
+pub hex-take : (src : List ℕ) (i : ℕ) → i < length src → hexOf (take (i + 1) src) ≡ hexOf (take i src) ++ pairOf (getD src i 0)
 unfolding hexOf pairOf
-hex-next xs b = hex-append xs (b ∷ [])
+hex-take src i h = ap hexOf (take-next src i h) ∙ hex-append (take i src) (getD src i 0 ∷ [])

@@ -1,1 +1,3 @@
 pub mod Hexing
+pub mod Lining
+pub mod Whole

@@ -1,9 +1,10 @@
 // Hex digits.
 ghost use mathlib.Core.Path.{_≡_};
-ghost use Prim.Native.Nat.{_+_, _<_, _≤_};
-ghost use lib.ListN.{length};
-ghost use Rattle.basics.specs.Lay.{laidAt, fitsAt, putAt};
+ghost use Prim.Native.Nat.{_+_, _*_, _<_};
+ghost use lib.Dec.{leb};
+ghost use Rattle.basics.specs.Lay.{Writes, behindOf, putAt};
 ghost use Rattle.text.specs.Hex.{digitOf, pairOf, hexOf};
+use basics::has_room;
 use basics::put;
 
 // The digit of a number below 16.
@@ -24,31 +25,39 @@ fn pair(b: u8) -> [u8; 2]
     [digit(b / 16), digit(b % 16)]
 }
 
-// Lays the digits of src where the caller has shown that they have room.
-fn lay_hex(dst: &mut [u8], at: usize, src: &[u8])
-    requires { ⌜ at + length (hexOf (now src)) ≤ length (now dst) ⌝ }
-    ensures { λ r. ⌜ now (dst .exit) ≡ laidAt (now (dst .entry)) at (hexOf (now (src .entry))) ⌝ }
+// Lays the digits of src one pair after the other.
+fn lay_hex(dst: &mut [u8], at: usize, src: &[u8]) -> usize
+    ensures { λ q. ⌜ Writes (now (dst .entry)) (now (dst .exit)) at q (hexOf (now (src .entry))) ⌝ }
 {
+    let mut q = at;
     let mut i: usize = 0;
     while i < src.len() {
         let digits = pair(src[i]);
-        put(dst, at + 2 * i, &digits);
+        q = put(dst, q, &digits);
         i += 1;
     }
+    q
 }
 
-// Lays the digits of src from at on and says true; where they have no room, changes nothing and says false.
-pub fn put_hex(dst: &mut [u8], at: usize, src: &[u8]) -> bool
-    ensures said { λ r. ⌜ r ≡ fitsAt (now (dst .entry)) at (hexOf (now (src .entry))) ⌝ }
-    ensures laid { λ r. ⌜ now (dst .exit) ≡ putAt (now (dst .entry)) at (hexOf (now (src .entry))) ⌝ }
-    ensures kept { λ r. ⌜ now (src .exit) ≡ now (src .entry) ⌝ }
+// Whether the digits of so many bytes, and so many ends of lines, have room from at on in a buffer of room bytes.
+pub(crate) fn has_room_for(room: usize, at: usize, bytes: usize, ends: usize) -> bool
+    ensures { λ r. ⌜ r ≡ leb (at + (2 * bytes + ends)) room ⌝ }
 {
-    if dst.len() / 2 < src.len() {
+    if room / 2 < bytes {
         return false;
     }
-    if at <= dst.len() - 2 * src.len() {
-        lay_hex(dst, at, src);
-        return true;
+    has_room(room - 2 * bytes, at, ends)
+}
+
+// Lays the digits of src from at on and gives the place behind them; where they have no room, changes nothing and gives at back.
+pub fn put_hex(dst: &mut [u8], at: usize, src: &[u8]) -> usize
+    ensures place { λ q. ⌜ q ≡ behindOf (now (dst .entry)) at (hexOf (now (src .entry))) ⌝ }
+    ensures laid { λ q. ⌜ now (dst .exit) ≡ putAt (now (dst .entry)) at (hexOf (now (src .entry))) ⌝ }
+    ensures kept { λ q. ⌜ now (src .exit) ≡ now (src .entry) ⌝ }
+    ensures next { λ q. ⌜ Writes (now (dst .entry)) (now (dst .exit)) at q (hexOf (now (src .entry))) ⌝ }
+{
+    if has_room_for(dst.len(), at, src.len(), 0) {
+        return lay_hex(dst, at, src);
     }
-    false
+    at
 }

@@ -1,11 +1,14 @@
-use Rattle.basics.proofs.Laying.{then-laid}
-use Rattle.lister.specs.Lines.{lineOf}
+use Rattle.basics.proofs.Laying.{then-writes}
+use Rattle.lister.specs.Lines.{markedOf}
 use borrow.Author.Needs.{needs}
 use Rattle.lister.proofs.lines.line.Statement.{statement}
 use Rattle.lister.proofs.lines.line.Tie as tie
 
-hex-requires : tie.Need-hex-requires
-hex-requires c κs = search needs
+put-hex-requires : tie.Need-put-hex-requires
+put-hex-requires c κs = search needs
+
+is-odd-requires : tie.Need-is-odd-requires
+is-odd-requires c κs = search needs
 
 line-end-requires : tie.Need-line-end-requires
 line-end-requires c κs = search needs
@@ -14,8 +17,13 @@ same-length : tie.Need-same-length
 same-length c = search needs
 
 returns : tie.Need-returns
-unfolding lineOf
-returns c = then-laid (c .before .before .before .before .before .before .hex .ensures) (c .before .before .line-end .ensures)
+unfolding markedOf
+returns c =
+    let ended = c .before .before in
+    let odd = ended .before in
+    let digits = odd .before .before .before .before in
+    then-writes (digits .put-hex .ensures .1 .1 .1) (rw (odd .is-odd .ensures) at (ended .line-end .ensures))
 
 pub line-spec : {M : Type 1} → statement M
-line-spec = tie.close (tie.spec hex-requires line-end-requires same-length returns)
+line-spec =
+    tie.close (tie.spec put-hex-requires is-odd-requires line-end-requires same-length returns)

@@ -1,51 +1,43 @@
-use Prim.Native.Nat.{_-_, _*_, _≤_}
+use Prim.Native.Nat.{_+_, _-_, _*_, _≤_}
 use mathlib.Core.Path.{_≡_, refl, _∙_}
-use denote.Ref.{now}
 use native.Mathlib.Omega.{arith}
-use lib.ListN.{length}
-use Rattle.basics.specs.Lay.{Laid}
-use Rattle.basics.proofs.Laying.{laid-nothing}
-use Rattle.lister.specs.Lines.{linesOf}
-use Rattle.lister.proofs.Lining.{eight, one-more}
+use denote.Ref.{now}
+use lib.ListN.{length, length-take, length-drop}
+use Rattle.basics.specs.Lay.{Writes}
+use Rattle.basics.proofs.Laying.{writes-nothing}
+use Rattle.text.specs.Lines.{perLine, rowsOf}
+use Rattle.text.proofs.Lining.{row-part, writes-row}
+use Rattle.lister.specs.Lines.{markedOf}
 use Rattle.lister.proofs.lines.lines.Statement.{statement}
 use Rattle.lister.proofs.lines.lines.Tie as tie
 
 abbrev Inv-loop : tie.InvT-loop
-Inv-loop text₀ p bytes n marks q₀ i₀ text q i = (i ≤ n) × (length text ≡ length text₀) × Laid text₀ text p q (21 * i) (linesOf marks i bytes)
+Inv-loop text₀ p answers n q₀ i₀ text q i = (i ≤ n) × (length text ≡ length text₀) × Writes text₀ text p q (rowsOf markedOf i answers)
 
 abbrev μ-loop : tie.MeasureT-loop
-μ-loop text₀ p bytes n marks q₀ i₀ text q i = n - i
+μ-loop text₀ p answers n q₀ i₀ text q i = n - i
 
 loop-holds : tie.Need-loop-holds Inv-loop μ-loop
-unfolding linesOf
-loop-holds c = (omega arith, refl, laid-nothing (omega arith))
+unfolding rowsOf
+loop-holds c = (omega arith, refl, writes-nothing)
 
 mul-from : tie.Need-mul-from Inv-loop μ-loop
 mul-from c = omega arith
 
-add-eight : tie.Need-add-eight Inv-loop μ-loop
-add-eight c = omega arith
+add-line : tie.Need-add-line Inv-loop μ-loop
+add-line c = omega arith
 
-sub-eight : tie.Need-sub-eight Inv-loop μ-loop
-sub-eight c = omega arith
+sub-line : tie.Need-sub-line Inv-loop μ-loop
+sub-line c = omega arith
 
-part-eight-start : tie.Need-part-eight-start Inv-loop μ-loop
-part-eight-start c = omega arith
+part-line-start : tie.Need-part-line-start Inv-loop μ-loop
+part-line-start c = omega arith
 
-part-eight-end : tie.Need-part-eight-end Inv-loop μ-loop
-part-eight-end c = omega arith
-
-is-odd-requires : tie.Need-is-odd-requires Inv-loop μ-loop
-is-odd-requires c κs =
-    let at = c .before .before .before in
-    let a = at .before .before .before .args in
-    eight (now (a .bytes)) (at .loop .i) (a .n) (omega arith) (omega arith)
+part-line-end : tie.Need-part-line-end Inv-loop μ-loop
+part-line-end c = omega arith
 
 line-requires : tie.Need-line-requires Inv-loop μ-loop
-line-requires c κs =
-    let at = c .before .before .before .before in
-    let a = at .before .before .before .args in
-    omega (arith, eight (now (a .bytes)) (at .loop .i) (a .n) (omega arith) (omega arith))
+line-requires c κs = simp (length-take, length-drop) (omega arith)
 
 add-i : tie.Need-add-i Inv-loop μ-loop
 add-i c = omega arith
@@ -55,12 +47,12 @@ loop-less c = omega arith
 
 loop-again : tie.Need-loop-again Inv-loop μ-loop
 loop-again c =
-    let line = c .before .before in
-    let odd = line .before in
-    let at = odd .before .before .before .before in
-    let a = at .before .before .before .args in
-    let more = one-more (now (a .bytes)) (at .loop .i) (a .n) (omega arith) (omega arith) (a .marks) (odd .is-odd .result) in
-    (omega arith, line .line .kept .0 ∙ at .loop .inv .1, more (at .loop .inv .2) (odd .is-odd .ensures) (line .line .ensures))
+    let lined = c .before .before in
+    let turn = lined .before .before .before .before in
+    let l = turn .loop in
+    let answers = now (turn .before .before .before .args .answers) in
+    let part = row-part answers (l .i) (perLine * l .i + perLine) (omega arith) (omega arith) in
+    (omega arith, lined .line .kept .0 ∙ l .inv .1, writes-row markedOf (l .i) answers (l .inv .2) (lined .line .ensures) part)
 
 same-length : tie.Need-same-length Inv-loop μ-loop
 same-length c = c .before .loop .inv .1
@@ -79,11 +71,10 @@ lines-spec =
     μ-loop
     loop-holds
     mul-from
-    add-eight
-    sub-eight
-    part-eight-start
-    part-eight-end
-    is-odd-requires
+    add-line
+    sub-line
+    part-line-start
+    part-line-end
     line-requires
     add-i
     loop-less

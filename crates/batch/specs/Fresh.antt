@@ -1,0 +1,37 @@
+-- A batch as the programs take it (document 01, "Records and what comes back", the listing program): its length and its replay.
+use Prim.Native.Nat.{ℕ, _*_, _/_, _≤_}
+use mathlib.Core.List.{List}
+use mathlib.Core.Path.{_≡_}
+use lib.ListN.{length}
+use Rattle.bench.specs.declared.step.Bench.{Bench}
+use Rattle.controller.specs.Chip as controller
+use Rattle.multiplexer.specs.Chip as multiplexer
+use Rattle.replay.specs.Run.{Run, runOf}
+use Rattle.replay.specs.declared.run.Replayed.{Replayed}
+
+-- as many bytes are taken at most
+abbrev pub mostBytes : ℕ
+mostBytes = 4096
+
+-- a record of four bytes has one answer
+abbrev pub mostAnswers : ℕ
+mostAnswers = mostBytes / 4
+
+-- and an answer has eight
+abbrev pub mostOutput : ℕ
+mostOutput = mostAnswers * 8
+
+-- both chips as they start
+abbrev pub freshBench : Bench
+freshBench = record { controller = controller.freshOf; multiplexer = multiplexer.freshOf }
+
+-- a batch on fresh chips, into an output of so many bytes
+unfoldable pub freshRunOf : List ℕ → ℕ → Run
+freshRunOf batch room = runOf batch room freshBench
+
+-- How far the numbers go that such a replay returns. All of it follows from the run; a caller needs it for the room of its text.
+pub record Bounded (batch out out′ : List ℕ) (r : Replayed) : Type 0 where
+  pub same : length out′ ≡ length out
+  pub ending : r .ending ≤ 4
+  pub taken : r .taken ≤ length batch
+  pub answers : 8 * r .answers ≤ length out

@@ -1,0 +1,65 @@
+-- Laws of listings. Assumes nothing.
+use Prim.Native.Nat.{ℕ, _+_, _-_, _*_, _≤_, _<_}
+use mathlib.Core.Path.{_≡_, refl, ap, _∙_}
+use mathlib.Core.Bool.{Bool, true, false}
+use mathlib.Core.List.{List, [], _∷_, _++_}
+use native.Mathlib.Omega.{arith}
+use lib.ListN.{length, drop, length-append}
+use Rattle.basics.specs.Choice.{if_then_else_}
+use Rattle.basics.specs.Lay.{laidAt, Writes}
+use Rattle.basics.proofs.Laying.{laid-front, then-writes}
+use Rattle.basics.proofs.Cases.{if-both}
+use Rattle.answer.specs.Answer.{bytesOf}
+use Rattle.answer.specs.declared.Answer.{Answer}
+use Rattle.text.specs.Lines.{rowsOf}
+use Rattle.text.specs.Speech.{tooLong}
+use Rattle.text.proofs.Hexing.{length-hex}
+use Rattle.replay.specs.Run.{Run, writtenOf, returnedOf}
+use Rattle.replay.specs.declared.run.Replayed.{Replayed}
+use Rattle.batch.specs.Fresh.{mostOutput, freshRunOf}
+use Rattle.batch.proofs.Ran.{answers-fit}
+use Rattle.lister.specs.Lines.{oddOf, lineEndOf, markedOf, markedLength, answerLinesOf, endOf}
+use Rattle.lister.specs.Listing.{listedOf, batchListingOf, listingOf, listingLength}
+
+-- the lines of answers that were written one after the other, whatever stands behind them
+lines-answers : (l : List Answer) (t : List ℕ) → rowsOf markedOf (length l) (writtenOf l ++ t) ≡ answerLinesOf l
+unfolding rowsOf writtenOf answerLinesOf
+lines-answers [] t = refl
+lines-answers (a ∷ l) t = ap (λ (w : List ℕ). markedOf (bytesOf a) ++ w) (lines-answers l t)
+
+-- the answers' lines, made of the output that a replay left, and then the ending
+pub lists : {t u s out′ : List ℕ} {p q : ℕ} {r : Replayed} (batch out : List ℕ) → length out ≡ mostOutput → r ≡ returnedOf (freshRunOf batch (length out))
+    → out′ ≡ laidAt out 0 (writtenOf (freshRunOf batch (length out) .answers)) → Writes t u 0 p (rowsOf markedOf (r .answers) out′)
+    → Writes u s p q (endOf (r .ending)) → Writes t s 0 q (batchListingOf batch)
+unfolding batchListingOf listedOf
+lists batch out long returned output a b =
+    let l = freshRunOf batch (length out) .answers in
+    let lines = lines-answers l (drop (length (writtenOf l)) out) in
+    rw (← long) (then-writes (rw (returned, output, laid-front out (writtenOf l), lines) at a) (rw returned at b))
+
+-- no line is longer than a marked one
+length-end : (odd : Bool) → length (lineEndOf odd) ≤ 5
+length-end true = omega arith
+length-end false = omega arith
+
+length-marked : (a : Answer) → length (markedOf (bytesOf a)) ≤ markedLength
+unfolding markedOf
+length-marked a = simp (length-append, length-hex) (omega (arith, length-end (oddOf a)))
+
+length-answers : (l : List Answer) → length (answerLinesOf l) ≤ markedLength * length l
+unfolding answerLinesOf
+length-answers [] = omega arith
+length-answers (a ∷ l) = simp length-append (omega (arith, length-marked a, length-answers l))
+
+-- every listing has room
+pub listing-fits : (input : List ℕ) → length (listingOf input) ≤ listingLength
+unfolding listingOf batchListingOf listedOf
+listing-fits input =
+    let run = freshRunOf input mostOutput in
+    if-both
+    (λ (l : List ℕ). length l ≤ listingLength)
+    _
+    tooLong
+    (listedOf run)
+    (λ yes. omega arith)
+    (λ no. simp length-append (omega (arith, length-answers (run .answers), answers-fit input mostOutput)))
