@@ -10,6 +10,7 @@ use Rattle.basics.proofs.flag.Reads as basics·flag
 use Rattle.basics.proofs.word.Reads as basics·word
 use Rattle.basics.proofs.high.Reads as basics·high
 use Rattle.basics.proofs.low.Reads as basics·low
+use Rattle.basics.proofs.has_room.Reads as basics·has-room
 use Rattle.basics.proofs.put.Reads as basics·put
 use Rattle.basics.proofs.width.Width.counted.Reads as basics·counted
 use Rattle.raster.proofs.registers.Registers.start.Reads as raster·start
@@ -81,6 +82,7 @@ use Rattle.alone.proofs.write.Reads as alone·write
 use Rattle.alone.proofs.clock.Reads as alone·clock
 use Rattle.alone.proofs.strike.Reads as alone·strike
 use Rattle.text.proofs.put_hex.Reads as text·put-hex
+use Rattle.text.proofs.put_lines.Reads as text·put-lines
 use Rattle.text.proofs.said.Reads as text·said
 use Rattle.bodies.proofs.bus_answer.Reads as bodies·bus-answer
 use Rattle.bodies.proofs.shown_answer.Reads as bodies·shown-answer
@@ -89,8 +91,9 @@ use Rattle.bodies.proofs.located_answer.Reads as bodies·located-answer
 use Rattle.bench.proofs.step.Bench.step.Reads as bench·step
 use Rattle.replay.proofs.unread_rest.Reads as replay·unread-rest
 use Rattle.replay.proofs.replay.Reads as replay·replay
+use Rattle.batch.proofs.replay_fresh.Reads as batch·replay-fresh
 use Rattle.lister.proofs.list.Reads as lister·list
-use Rattle.lister.proofs.room.Reads as lister·room
+use Rattle.rooms_text.proofs.room.Reads as rooms-text·room
 use Rattle.exports.proofs.controller_fresh.Reads as exports·controller-fresh
 use Rattle.exports.proofs.controller_reset.Reads as exports·controller-reset
 use Rattle.exports.proofs.controller_write.Reads as exports·controller-write
@@ -116,8 +119,11 @@ basics-high κs a x y s t p q = one-answer p q
 pub basics-low : OneAnswer basics·low.Post (λ κs r s. r)
 basics-low κs a x y s t p q = one-answer p q
 
+pub basics-has-room : OneAnswer basics·has-room.Post (λ κs r s. r)
+basics-has-room κs a x y s t p q = one-answer p q
+
 pub basics-put : OneAnswer basics·put.Post (λ κs r s. r beside now (s .0) beside now (s .1 .1 .0))
-basics-put κs a x y s t p q = one-answer (p .0) (q .0) and one-answer (p .1 .0) (q .1 .0) and one-answer (p .1 .1) (q .1 .1)
+basics-put κs a x y s t p q = one-answer (p .0) (q .0) and one-answer (p .1 .0) (q .1 .0) and one-answer (p .1 .1 .0) (q .1 .1 .0)
 
 pub basics-counted : OneAnswer basics·counted.Post (λ κs r s. r)
 basics-counted κs a x y s t p q = one-answer p q
@@ -327,7 +333,10 @@ pub alone-strike : OneAnswer alone·strike.Post (λ κs r s. r)
 alone-strike κs a x y s t p q = one-answer p q
 
 pub text-put-hex : OneAnswer text·put-hex.Post (λ κs r s. r beside now (s .0) beside now (s .1 .1 .0))
-text-put-hex κs a x y s t p q = one-answer (p .0) (q .0) and one-answer (p .1 .0) (q .1 .0) and one-answer (p .1 .1) (q .1 .1)
+text-put-hex κs a x y s t p q = one-answer (p .0) (q .0) and one-answer (p .1 .0) (q .1 .0) and one-answer (p .1 .1 .0) (q .1 .1 .0)
+
+pub text-put-lines : OneAnswer text·put-lines.Post (λ κs r s. r beside now (s .0) beside now (s .1 .1 .0))
+text-put-lines κs a x y s t p q = one-answer (p .0) (q .0) and one-answer (p .1 .0) (q .1 .0) and one-answer (p .1 .1 .0) (q .1 .1 .0)
 
 pub text-said : OneAnswer text·said.Post (λ κs r s. r beside now (s .1 .0))
 text-said κs a x y s t p q = one-answer (p .0) (q .0) and one-answer (p .1 .1) (q .1 .1)
@@ -353,11 +362,14 @@ replay-unread-rest κs a x y s t p q = one-answer (p .0) (q .0) and one-answer (
 pub replay-replay : OneAnswer replay·replay.Post (λ κs r s. r beside now (s .1 .0) beside now (s .0))
 replay-replay κs a x y s t p q = one-answer (p .0) (q .0) and one-answer (p .1 .0) (q .1 .0) and one-answer (p .1 .1) (q .1 .1)
 
+pub batch-replay-fresh : OneAnswer batch·replay-fresh.Post (λ κs r s. r beside now (s .1 .0) beside now (s .0))
+batch-replay-fresh κs a x y s t p q = one-answer (p .0) (q .0) and one-answer (p .1 .0) (q .1 .0) and one-answer (p .1 .1 .0) (q .1 .1 .0)
+
 pub lister-list : OneAnswer lister·list.Post (λ κs r s. r beside now (s .1 .0) beside now (s .0))
 lister-list κs a x y s t p q = one-answer (p .0) (q .0) and one-answer (p .1 .0) (q .1 .0) and one-answer (p .1 .1 .1) (q .1 .1 .1)
 
-pub lister-room : OneAnswer lister·room.Post (λ κs r s. r beside now (s .1 .0) beside now (s .0))
-lister-room κs a x y s t p q = one-answer (p .0) (q .0) and one-answer (p .1 .0) (q .1 .0) and one-answer (p .1 .1 .1) (q .1 .1 .1)
+pub rooms-text-room : OneAnswer rooms-text·room.Post (λ κs r s. r beside now (s .1 .0) beside now (s .0))
+rooms-text-room κs a x y s t p q = one-answer (p .0) (q .0) and one-answer (p .1 .0) (q .1 .0) and one-answer (p .1 .1 .1) (q .1 .1 .1)
 
 pub exports-controller-fresh : OneAnswer exports·controller-fresh.Post (λ κs r s. r)
 exports-controller-fresh κs a x y s t p q = one-answer p q
