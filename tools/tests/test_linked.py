@@ -15,7 +15,8 @@ from linked.layout import proved_declarations
 from linked.sources import Sources, Unfit
 
 COMPILER = ["gcc"]
-PEN = "struct pen { u16 latch; _Bool inside, struck, full; };"
+PEN = "struct pen { struct strike last; _Bool any, full; };"
+STRIKE = "struct strike { u16 latch; _Bool inside; };"
 SCAN = "struct scan { u8 column, line, row; u16 base, start; u8 field; _Bool adjusting; };"
 CLOCK = "struct controller controller_clock(struct controller c, u16 n);"
 LOCATE = "struct found controller_locate(struct controller c);"
@@ -23,24 +24,24 @@ RESET = "struct controller controller_reset(struct controller c);"
 
 # What is wrong with a header: the words of it that are replaced, those in their place, and words of the refusal.
 WRONG_HEADERS = {
-    "two fields of one type swapped": (PEN, PEN.replace("inside, struck", "struck, inside"), "struct pen: inside is not at byte 2"),
+    "two fields of one type swapped": (PEN, PEN.replace("any, full", "full, any"), "struct pen: any is not at byte 4"),
     "two fields of one type swapped in a row": (SCAN, SCAN.replace("column, line", "line, column"), "struct scan: line is not at byte 1"),
     "two whole structs swapped": ("struct sync sync;\n    struct facts left;", "struct facts left;\n    struct sync sync;",
                                   "struct controller: sync is not at byte 28"),
     "a wider field": (SCAN, SCAN.replace("u8 field", "u16 field"), "struct scan: the size of field is not 1"),
-    "a narrower field": (PEN, PEN.replace("u16 latch", "u8 latch"), "struct pen: the size of latch is not 2"),
+    "a narrower field": (STRIKE, STRIKE.replace("u16 latch", "u8 latch"), "struct strike: the size of latch is not 2"),
     "a field too many": (SCAN, SCAN.replace("u8 field;", "u8 field, more;"), "struct scan: adjusting is not at byte 9"),
     "a number where a truth value is": (SCAN, SCAN.replace("_Bool adjusting", "u8 adjusting"), "adjusting is no proved_bool"),
-    "a signed field": (PEN, PEN.replace("u16 latch", "short latch"), "latch is no proved_u16"),
+    "a signed field": (STRIKE, STRIKE.replace("u16 latch", "short latch"), "latch is no proved_u16"),
     "a shorter array": ("held[16]", "held[15]", "struct registers: the size of held is not 16"),
     "a field missing": (PEN, PEN.replace(", full", ""), "full"),
     "a field missing before padding": (SCAN, SCAN.replace(", row", ""), "row"),
     "a field that hides in padding": (SCAN, SCAN.replace("line, row", "line, row, extra"), "scan"),
-    "a field that hides in the end's padding": (PEN, PEN.replace(", full", ", full, extra"), "pen"),
-    "a field of another name": (PEN, PEN.replace("struck", "stuck"), "struck"),
+    "a field that hides in the end's padding": (STRIKE, STRIKE.replace("inside", "inside, extra"), "strike"),
+    "a field of another name": (PEN, PEN.replace("any", "every"), "any"),
     "fields without padding": (SCAN, SCAN.replace("};", "} __attribute__((packed));"), "struct scan"),
-    "fields further apart": (PEN, PEN.replace("};", "} __attribute__((aligned(8)));"), "struct pen: its alignment is not 2"),
-    "a struct missing": ("struct counted { u16 b; u8 x, y; };", "struct counted;", "counted"),
+    "fields further apart": (STRIKE, STRIKE.replace("};", "} __attribute__((aligned(8)));"), "struct strike: its alignment is not 2"),
+    "a struct missing": ("struct display { u16 b; u8 x, y; };", "struct display;", "display"),
     "a struct that is not proved": (PEN, PEN + " struct beam { u8 width; };", "the struct beam"),
     "a wider parameter": (CLOCK, CLOCK.replace("u16 n", "unsigned n"), "controller_clock"),
     "a narrower parameter": (CLOCK, CLOCK.replace("u16 n", "u8 n"), "controller_clock"),
@@ -48,7 +49,7 @@ WRONG_HEADERS = {
     "a parameter missing": (CLOCK, CLOCK.replace(", u16 n", ""), "controller_clock"),
     "a parameter too many": (RESET, RESET.replace("c)", "c, u16 n)"), "controller_reset"),
     "parameters left open": (RESET, RESET.replace("struct controller c)", ")"), "prototype"),
-    "another result": (LOCATE, LOCATE.replace("struct found", "struct counted"), "controller_locate"),
+    "another result": (LOCATE, LOCATE.replace("struct found", "struct display"), "controller_locate"),
     "a call missing": (LOCATE, "", "controller_locate"),
     "a call that is not exported": (LOCATE, LOCATE + " void controller_halt(void);", "the call controller_halt"),
 }
