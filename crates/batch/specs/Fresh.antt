@@ -9,15 +9,15 @@ use Rattle.multiplexer.specs.Chip as multiplexer
 use Rattle.replay.specs.Run.{Run, runOf}
 use Rattle.replay.specs.declared.run.Replayed.{Replayed}
 
--- as many bytes are taken at most
+-- the most bytes that a program takes as a batch
 abbrev pub mostBytes : ℕ
 mostBytes = 4096
 
--- a record of four bytes has one answer
+-- the most answers that they have: one for every four bytes
 abbrev pub mostAnswers : ℕ
 mostAnswers = mostBytes / 4
 
--- and an answer has eight
+-- the output that these answers fill, eight bytes each
 abbrev pub mostOutput : ℕ
 mostOutput = mostAnswers * 8
 

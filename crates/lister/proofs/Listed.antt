@@ -11,6 +11,7 @@ use Rattle.basics.proofs.Laying.{laid-front, then-writes}
 use Rattle.basics.proofs.Cases.{if-both}
 use Rattle.answer.specs.Answer.{bytesOf}
 use Rattle.answer.specs.declared.Answer.{Answer}
+use Rattle.text.specs.Hex.{hexOf}
 use Rattle.text.specs.Lines.{rowsOf}
 use Rattle.text.specs.Speech.{tooLong}
 use Rattle.text.proofs.Hexing.{length-hex}
@@ -23,7 +24,7 @@ use Rattle.lister.specs.Listing.{listedOf, batchListingOf, listingOf, li
 
 -- the lines of answers that were written one after the other, whatever stands behind them
 lines-answers : (l : List Answer) (t : List ℕ) → rowsOf markedOf (length l) (writtenOf l ++ t) ≡ answerLinesOf l
-unfolding rowsOf writtenOf answerLinesOf
+unfolding rowsOf writtenOf answerLinesOf markedOf
 lines-answers [] t = refl
 lines-answers (a ∷ l) t = ap (λ (w : List ℕ). markedOf (bytesOf a) ++ w) (lines-answers l t)
 
@@ -38,13 +39,12 @@ lists batch out long returned output a b =
     rw (← long) (then-writes (rw (returned, output, laid-front out (writtenOf l), lines) at a) (rw returned at b))
 
 -- no line is longer than a marked one
-length-end : (odd : Bool) → length (lineEndOf odd) ≤ 5
+length-end : (odd : Bool) → length (lineEndOf odd) ≤ length (lineEndOf true)
 length-end true = omega arith
 length-end false = omega arith
 
-length-marked : (a : Answer) → length (markedOf (bytesOf a)) ≤ markedLength
-unfolding markedOf
-length-marked a = simp (length-append, length-hex) (omega (arith, length-end (oddOf a)))
+length-marked : (a : Answer) → length (hexOf (bytesOf a)) + length (lineEndOf (oddOf a)) ≤ markedLength
+length-marked a = simp length-hex (omega (arith, length-end (oddOf a)))
 
 length-answers : (l : List Answer) → length (answerLinesOf l) ≤ markedLength * length l
 unfolding answerLinesOf

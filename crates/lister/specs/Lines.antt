@@ -37,19 +37,19 @@ abbrev pub lineEndOf : Bool → List ℕ
 lineEndOf true = mark ++ newline
 lineEndOf false = newline
 
--- eight bytes as digits on a line, marked where an odd answer is on it
-unfoldable pub markedOf : List ℕ → List ℕ
-markedOf bytes = hexOf bytes ++ lineEndOf (oddOf (answerOf bytes))
+-- each answer on its line: its bytes as digits, and the mark where it is due
+unfoldable pub answerLinesOf : List Answer → List ℕ
+answerLinesOf [] = []
+answerLinesOf (a ∷ l) = (hexOf (bytesOf a) ++ lineEndOf (oddOf a)) ++ answerLinesOf l
 
 -- no line is longer than this
 abbrev pub markedLength : ℕ
 markedLength = lineLength + length mark
 
--- each answer on its line
-unfoldable pub answerLinesOf : List Answer → List ℕ
-answerLinesOf [] = []
-answerLinesOf (a ∷ l) = markedOf (bytesOf a) ++ answerLinesOf l
-
 -- `end`, the ending number and the end of the line
 abbrev pub endOf : ℕ → List ℕ
 endOf ending = 101 ∷ 110 ∷ 100 ∷ 32 ∷ (48 + ending) ∷ 10 ∷ []
+
+-- The line of an answer that is eight bytes: what the lister's own functions say of the bytes that they are given.
+unfoldable pub markedOf : List ℕ → List ℕ
+markedOf bytes = hexOf bytes ++ lineEndOf (oddOf (answerOf bytes))
