@@ -1,7 +1,7 @@
 """Public functions and their laws: each states its whole answer, has no `requires`, and has the one law that its signature asks for.
 
-The laws stand in crates/answers/proofs/OneAnswer.antt, over the real contracts (`Post`, which Rattle makes of the source's clauses); the
-form that they take is defined in crates/answers/specs/OneAnswer.antt, and in Lent.antt beside it where a struct is lent.
+The laws stand in crates/one_answer/proofs/OneAnswer.antt, over the real contracts (`Post`, which Rattle makes of the source's clauses); the
+form that they take is defined in crates/one_answer/specs/OneAnswer.antt, and in Lent.antt beside it where a struct is lent.
 """
 import dataclasses
 import re
@@ -9,10 +9,10 @@ import re
 from checks import antt, crates, fixed, source
 from checks.laws import BINDERS, NoForm, claim_of, fits, law_type, lends_struct, proof_of
 
-LAWS = "crates/answers/proofs/OneAnswer.antt"
-FORMS = "crates/answers/specs/OneAnswer.antt"
-LENT = "crates/answers/specs/Lent.antt"
-MODULE = "Rattle.answers.specs."
+LAWS = "crates/one_answer/proofs/OneAnswer.antt"
+FORMS = "crates/one_answer/specs/OneAnswer.antt"
+LENT = "crates/one_answer/specs/Lent.antt"
+MODULE = "Rattle.one_answer.specs."
 # What the laws' types are made of, by the names that they have there.
 PARTS = {
     "OneAnswer": (MODULE + "OneAnswer", "OneAnswer"), "_beside_": (MODULE + "OneAnswer", "_beside_"),

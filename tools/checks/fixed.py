@@ -28,7 +28,7 @@ use contract.Lifetimes.{Lfts}
 use denote.Triple.Entry.{Args, Res}
 use denote.Triple.Clauses.{Ended, Clauses, AtExit}
 use borrow.Fn.World.{w₀}
-use Rattle.answers.specs.OneAnswer.{OneAnswer}
+use Rattle.one_answer.specs.OneAnswer.{OneAnswer}
 
 abbrev pub Written : Ended → Type 2
 Written T = (𝓤 : URA (w₀ .M)) (H : Heap 𝓤) → Atoms 𝓤 → (Memory → SProp 𝓤) → (Routine → Fun 𝓤) → Clauses 𝓤 T

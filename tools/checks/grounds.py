@@ -1,7 +1,7 @@
 """What a reader has to believe: the definitions that a promise, the contract of a public function, or another definition rests on.
 
 The promises are the types in crates/promises/proofs/Promises.antt, the contracts are the clauses of the code, and the laws of one answer
-are the types in crates/answers/proofs/OneAnswer.antt.
+are the types in crates/one_answer/proofs/OneAnswer.antt.
 """
 import dataclasses
 import re

@@ -25,8 +25,8 @@ SUMS = {
     "crates/replay/specs/Run.antt": "f3b1e23a934eee82",
     "crates/settled/specs/Cases.antt": "f10685c6f7dabc93",
     "crates/settled/specs/Premises.antt": "4c4ff8cdc9c103ff",
-    "crates/visits/specs/Picture.antt": "c38d3515d934dd97",
-    "crates/visits/specs/Refresh.antt": "1e4f3c3808ec21aa",
+    "crates/refresh_and_pictures/specs/Picture.antt": "c38d3515d934dd97",
+    "crates/refresh_and_pictures/specs/Refresh.antt": "1e4f3c3808ec21aa",
 }
 
 

@@ -1,12 +1,12 @@
-"""crates/answers/proofs/OneAnswer.antt, written anew from the signatures: what can be worked out is, and other proofs are kept."""
+"""crates/one_answer/proofs/OneAnswer.antt, written anew from the signatures: what can be worked out is, and other proofs are kept."""
 from checks import antt, contracts, fixed
 from checks.definitions import stands_in, words_in
 from checks.laws import BINDERS, CLAIM, fits
 
-LIB = "crates/answers/specs/Lib.antt"
+LIB = "crates/one_answer/specs/Lib.antt"
 # What the laws are made of: their types, and the proofs that are written here.
 PARTS = contracts.PARTS | {
-    "one-answer": ("Rattle.basics.proofs.Alike", "one-answer"), "_and_": ("Rattle.answers.proofs.Alike", "_and_"),
+    "one-answer": ("Rattle.basics.proofs.Alike", "one-answer"), "_and_": ("Rattle.one_answer.proofs.Alike", "_and_"),
 }
 
 

@@ -6,7 +6,7 @@ LIB = "crates/alpha/src/lib.rt"
 LAWS = contracts.LAWS
 
 FILES = {
-    "crates.txt": "# crates\nalpha:\nlisting: alpha io libc\nanswers: alpha\n",
+    "crates.txt": "# crates\nalpha:\nlisting: alpha io libc\none_answer: alpha\n",
     LIB: """// What is public.
 ghost use mathlib.Core.Path.{_≡_};
 mod width;
@@ -62,13 +62,13 @@ impl Width {
     }
 }
 """,
-    "crates/answers/src/lib.rt": "// No code.\n",
+    "crates/one_answer/src/lib.rt": "// No code.\n",
     contracts.FORMS: "-- The \"forms\".\n" + fixed.FORMS,
     LAWS: """-- One answer.
 use denote.Ref.{now}
-use Rattle.answers.specs.OneAnswer.{OneAnswer, _beside_}
+use Rattle.one_answer.specs.OneAnswer.{OneAnswer, _beside_}
 use Rattle.basics.proofs.Alike.{one-answer}
-use Rattle.answers.proofs.Alike.{_and_}
+use Rattle.one_answer.proofs.Alike.{_and_}
 use Rattle.alpha.proofs.one.Reads as alpha·one
 use Rattle.alpha.proofs.put.Reads as alpha·put
 use Rattle.alpha.proofs.rest.Reads as alpha·rest

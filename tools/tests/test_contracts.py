@@ -253,7 +253,7 @@ class LawsFile(ContractsTest):
         self.assertLaw("specs.OneAnswer.{OneAnswer, _beside_", "specs.OneAnswer.{_beside_", "no `use` line brings OneAnswer")
 
     def test_a_form_of_another_module(self):
-        self.assertLaw("use Rattle.answers.specs.OneAnswer", "use Rattle.alpha.proofs.Mine", "OneAnswer has to stand for")
+        self.assertLaw("use Rattle.one_answer.specs.OneAnswer", "use Rattle.alpha.proofs.Mine", "OneAnswer has to stand for")
 
     def test_another_thing_under_the_name_of_a_form(self):
         self.assertLaw("{one-answer}", "{one-answer, Trivial as OneAnswer}", "OneAnswer is brought in twice")

@@ -78,7 +78,7 @@ class Lent(ContractsTest):
         self.files[LIB] += CLOCK_IN
         self.files[contracts.LENT] = fixed.LENT
         self.edit(LAWS, "use Rattle.alpha.proofs.one", "use Rattle.alpha.proofs.clock_in as alpha·clock-in\nuse Rattle.alpha.proofs.one")
-        self.edit(LAWS, "use denote", "use Rattle.answers.specs.Lent.{OneLent}\nuse denote")
+        self.edit(LAWS, "use denote", "use Rattle.one_answer.specs.Lent.{OneLent}\nuse denote")
         self.files[LAWS] += f"\npub alpha-clock-in : {CLOCK_LAW}\nalpha-clock-in = (tied, shown)\n"
 
     def test_its_law(self):
@@ -120,15 +120,15 @@ class Written(ContractsTest):
         text = self.written()
         self.assertEqual(self.wrong(), [])
         self.assertIn("alpha-rest κs a x y s t p q = (by hand)\n", text)
-        self.assertTrue(text.startswith("-- One answer.\nuse Rattle.answers.specs.OneAnswer.{OneAnswer, _beside_}\nuse denote.Ref.{now}\n"))
+        self.assertTrue(text.startswith("-- One answer.\nuse Rattle.one_answer.specs.OneAnswer.{OneAnswer, _beside_}\nuse denote.Ref.{now}\n"))
         self.assertEqual(list(written.write(self.top)), self.said)
         self.assertEqual((self.top / LAWS).read_text(), text)
 
     def test_laws_and_names_that_are_missing(self):
-        self.files[LAWS] = "-- One answer.\nuse Rattle.answers.specs.OneAnswer.{OneOutcome, OneAnswer}\nuse old.Names.{no-more}\n"
+        self.files[LAWS] = "-- One answer.\nuse Rattle.one_answer.specs.OneAnswer.{OneOutcome, OneAnswer}\nuse old.Names.{no-more}\n"
         text = self.written()
         self.assertEqual(self.wrong(), [])
-        for line in ("use Rattle.basics.proofs.Alike.{one-answer}", "use Rattle.answers.proofs.Alike.{_and_}"):
+        for line in ("use Rattle.basics.proofs.Alike.{one-answer}", "use Rattle.one_answer.proofs.Alike.{_and_}"):
             self.assertIn(line + "\n", text)
         self.assertNotIn("OneOutcome", text)
         self.assertNotIn("no-more", text)

@@ -20,10 +20,10 @@ use Rattle.control.specs.Write.{isControlOf, OneBitWritten}
 use Rattle.control.specs.declared.bits.Control.{Control}
 use Rattle.control.proofs.Written.{one-bit-written}
 use Rattle.multiplexer.specs.Chip.{busOf, fetchesOf, levelsOf}
-use Rattle.visits.specs.Refresh.{SixteenFallsVisitAllRows, CounterKeepsItsWidth}
-use Rattle.visits.specs.Picture.{Pictures}
-use Rattle.visits.proofs.AllRows.{all-rows, keeps-its-width}
-use Rattle.visits.proofs.Pictures.{pictures}
+use Rattle.refresh_and_pictures.specs.Refresh.{SixteenFallsVisitAllRows, CounterKeepsItsWidth}
+use Rattle.refresh_and_pictures.specs.Picture.{Pictures}
+use Rattle.refresh_and_pictures.proofs.AllRows.{all-rows, keeps-its-width}
+use Rattle.refresh_and_pictures.proofs.Pictures.{pictures}
 use Rattle.record.specs.Decode.{decodeOf}
 use Rattle.record.specs.Refusals.{Refusals as RecordRefusals}
 use Rattle.record.proofs.Refusals.{refusals as record-refusals}

@@ -18,7 +18,7 @@ use Rattle.multiplexer.specs.Edge.{fall, edgeOf}
 use Rattle.multiplexer.specs.Refresh.{eightFrom, idleAt, refreshOf}
 use Rattle.multiplexer.specs.declared.chip.Multiplexer.{Multiplexer}
 use Rattle.multiplexer.specs.declared.refresh.Refresh.{Refresh}
-use Rattle.visits.specs.Refresh.{Event, bus, fetches, levels, after, rowsFrom, refreshes, falls, visited, allFalls, R1Clear, SixteenFallsVisitAllRows, afterAll, CounterKeepsItsWidth}
+use Rattle.refresh_and_pictures.specs.Refresh.{Event, bus, fetches, levels, after, rowsFrom, refreshes, falls, visited, allFalls, R1Clear, SixteenFallsVisitAllRows, afterAll, CounterKeepsItsWidth}
 
 -- ---- one record, with R1 clear: HS falls and eight rows are refreshed, or the counter rests
 

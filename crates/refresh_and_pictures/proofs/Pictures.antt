@@ -8,7 +8,7 @@ use Rattle.display.specs.Edges.{fallOf, preloadOf, withB0}
 use Rattle.multiplexer.specs.Chip.{fetchesOf, levelsOf}
 use Rattle.multiplexer.specs.Edge.{edgeOf, movedOf}
 use Rattle.multiplexer.specs.Refresh.{refreshOf}
-use Rattle.visits.specs.Picture.{addresses, afterLine, lines, repeated, rowsShown, joined, Pictures}
+use Rattle.refresh_and_pictures.specs.Picture.{addresses, afterLine, lines, repeated, rowsShown, joined, Pictures}
 
 pub pictures : Pictures
 unfolding if_then_else_ iterate advanced countX countY flipB4 fetchOf fallOf preloadOf withB0 fetchesOf levelsOf edgeOf movedOf refreshOf addresses afterLine lines count repeated rowsShown joined

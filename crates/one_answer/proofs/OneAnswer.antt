@@ -1,10 +1,10 @@
 -- One answer: a law for every public function, over its real contract (`Post`, which Rattle makes of the source's clauses), with all that
 -- a caller sees of a call. `tools/check-contracts --write` writes this file from the signatures, and tools/check-contracts holds it to them.
 -- Assumes nothing.
-use Rattle.answers.specs.OneAnswer.{OneAnswer, _beside_}
+use Rattle.one_answer.specs.OneAnswer.{OneAnswer, _beside_}
 use denote.Ref.{now}
 use Rattle.basics.proofs.Alike.{one-answer}
-use Rattle.answers.proofs.Alike.{_and_}
+use Rattle.one_answer.proofs.Alike.{_and_}
 use Rattle.basics.proofs.number.Reads as basics·number
 use Rattle.basics.proofs.flag.Reads as basics·flag
 use Rattle.basics.proofs.word.Reads as basics·word
