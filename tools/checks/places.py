@@ -9,7 +9,7 @@ from checks.grounds import Grounds
 PRIVATE = "private/"
 # The crates whose definitions are not yet sorted. To turn the check on for one, take it out here.
 UNSORTED = {
-    "basics", "record", "answer", "text", "bodies", "bench", "replay", "lister",
+    "basics", "text", "lister",
 }
 
 

@@ -20,7 +20,7 @@ use Rattle.batch.specs.Fresh.{freshBench, freshRunOf, Bounded}
 -- no more answers than have room
 pub answers-fit : (batch : List ℕ) (room : ℕ) → 8 * length (freshRunOf batch room .answers) ≤ room
 unfolding freshRunOf
-answers-fit batch room = sound batch room freshBench .fits
+answers-fit batch room = sound batch room freshBench .has-room
 
 -- what the replay gives on chips that are fresh
 pub ran : (batch out : List ℕ) {out′ : List ℕ} {r : Replayed} {c : Controller} {m : Multiplexer} → c ≡ controller.freshOf → m ≡ multiplexer.freshOf
@@ -34,9 +34,9 @@ ran batch out {out′} {r} {c} {m} ec em er eo =
     let output : out′ ≡ laidAt out 0 (writtenOf (run .answers)) = rw (ec, em) at eo in
     let bounded : Bounded batch out out′ r =
     record {
-      same = ap length output ∙ length-laid out 0 (writtenOf (run .answers)) (omega (arith, length-written (run .answers), s .fits));
+      same = ap length output ∙ length-laid out 0 (writtenOf (run .answers)) (omega (arith, length-written (run .answers), s .has-room));
       ending = rw returned (⊎-elim (λ e. omega arith) (λ n. ⊎-elim (λ e. omega arith) (λ e. omega arith) n) (s .endings));
       taken = rw returned (s .within);
-      answers = rw returned (s .fits);
+      answers = rw returned (s .has-room);
     } in
     (returned, (output, (refl, bounded)))

@@ -42,16 +42,16 @@ data End (ending left room : ℕ) : Type 0 where
 record Core (batch : List ℕ) (room : ℕ) (r : Run) : Type 0 where
   pub taken : r .taken ≡ 4 * length (r .answers)
   pub within : r .taken ≤ length batch
-  pub fits : 8 * length (r .answers) ≤ room
+  pub has-room : 8 * length (r .answers) ≤ room
   pub end : End (r .ending) (length batch - r .taken) (room - 8 * length (r .answers))
 
 cut : (batch : List ℕ) (room : ℕ) (b : Bench) → 0 < length batch → length batch < 4 → Core batch room (stop b 3)
 cut batch room b h k =
-    record { taken = refl; within = omega arith; fits = omega arith; end = short refl (omega arith) (omega arith) }
+    record { taken = refl; within = omega arith; has-room = omega arith; end = short refl (omega arith) (omega arith) }
 
 core : (batch : List ℕ) (room : ℕ) (b : Bench) → Core batch room (runOf batch room b)
 unfolding runOf
-core [] room b = record { taken = refl; within = omega arith; fits = omega arith; end = empty refl (omega arith) }
+core [] room b = record { taken = refl; within = omega arith; has-room = omega arith; end = empty refl (omega arith) }
 core (x ∷ []) room b = cut (x ∷ []) room b (omega arith) (omega arith)
 core (x ∷ y ∷ []) room b = cut (x ∷ y ∷ []) room b (omega arith) (omega arith)
 core (x ∷ y ∷ z ∷ []) room b = cut (x ∷ y ∷ z ∷ []) room b (omega arith) (omega arith)
@@ -59,7 +59,7 @@ core (kind ∷ hi ∷ lo ∷ value ∷ rest) room b =
     ⊎-elim
     (λ (h : room < 8).
     rw (run-full kind hi lo value rest room b h)
-    (record { taken = refl; within = omega arith; fits = omega arith; end = full refl (omega arith) (omega arith) }))
+    (record { taken = refl; within = omega arith; has-room = omega arith; end = full refl (omega arith) (omega arith) }))
     (λ (h : 8 ≤ room).
     let s = stepOf b kind hi lo value in
     let r = runOf rest (room - 8) (s .bench) in
@@ -67,7 +67,7 @@ core (kind ∷ hi ∷ lo ∷ value ∷ rest) room b =
     let left : length (kind ∷ hi ∷ lo ∷ value ∷ rest) - (4 + r .taken) ≡ length rest - r .taken = omega arith in
     let free : room - 8 * suc (length (r .answers)) ≡ room - 8 - 8 * length (r .answers) = omega arith in
     rw (run-more kind hi lo value rest room b h)
-    (record { taken = omega (arith, c .taken); within = omega (arith, c .within); fits = omega (arith, c .fits); end = rw (left, free) (c .end) }))
+    (record { taken = omega (arith, c .taken); within = omega (arith, c .within); has-room = omega (arith, c .has-room); end = rw (left, free) (c .end) }))
     (lt-or-ge room 8)
 
 sound-core : (batch : List ℕ) (room : ℕ) (r : Run) → Core batch room r → Sound batch room r
@@ -77,7 +77,7 @@ sound-core batch room r c = by-end (c .end) where
       record {
         taken = c .taken;
         within = c .within;
-        fits = c .fits;
+        has-room = c .has-room;
         endings = inl e;
         none = (λ p. omega (arith, c .within), λ p. e);
         short = (λ p. absurd (omega arith), λ p. absurd (omega (arith, p .0, p .1)));
@@ -87,7 +87,7 @@ sound-core batch room r c = by-end (c .end) where
       record {
         taken = c .taken;
         within = c .within;
-        fits = c .fits;
+        has-room = c .has-room;
         endings = inr (inl e);
         none = (λ p. absurd (omega arith), λ p. absurd (omega arith));
         short = (λ p. (omega (arith, c .within), omega arith), λ p. e);
@@ -97,7 +97,7 @@ sound-core batch room r c = by-end (c .end) where
       record {
         taken = c .taken;
         within = c .within;
-        fits = c .fits;
+        has-room = c .has-room;
         endings = inr (inr e);
         none = (λ p. absurd (omega arith), λ p. absurd (omega arith));
         short = (λ p. absurd (omega arith), λ p. absurd (omega (arith, p .0, p .1)));
@@ -151,7 +151,7 @@ run-on batch more room wide b h =
 
 pub run-then : (batch more : List ℕ) (room : ℕ) (b : Bench)
     → runOf (batch ++ more) room b ≡ andThen (runOf batch room b) (drop (runOf batch room b .taken) batch ++ more) room
-run-then batch more room b = run-on batch more room room b (sound batch room b .fits)
+run-then batch more room b = run-on batch more room room b (sound batch room b .has-room)
 
 pub run-whole : (batch more : List ℕ) (room : ℕ) (b : Bench) → runOf batch room b .ending ≡ 0
     → runOf (batch ++ more) room b ≡ andThen (runOf batch room b) more room

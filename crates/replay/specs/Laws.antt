@@ -12,7 +12,7 @@ pub record Sound (batch : List ℕ) (room : ℕ) (r : Run) : Type 0 where
   -- four bytes are taken for each answer, no more than the batch has, and each answer has its eight bytes of room
   pub taken : r .taken ≡ 4 * length (r .answers)
   pub within : r .taken ≤ length batch
-  pub fits : 8 * length (r .answers) ≤ room
+  pub has-room : 8 * length (r .answers) ≤ room
   -- there are three endings: 0 when nothing is left of the batch, 3 when one to three bytes are left, 4 when a record is left and no room
   -- for its answer
   pub endings : (r .ending ≡ 0) ⊎ (r .ending ≡ 3) ⊎ (r .ending ≡ 4)

@@ -1,3 +1,4 @@
 pub mod Run
 pub mod Rest
 pub mod Laws
+pub mod private

@@ -2,7 +2,7 @@
 use Prim.Native.Nat.{ℕ, _+_, _-_}
 use mathlib.Core.List.{List, [], _∷_, _++_}
 use lib.Dec.{ltb}
-use lib.ListN.{length, getD}
+use lib.ListN.{length}
 use Rattle.basics.specs.Choice.{if_then_else_}
 use Rattle.basics.specs.Lay.{laidAt}
 use Rattle.answer.specs.Answer.{bytesOf}
@@ -43,10 +43,6 @@ runOf (x ∷ y ∷ []) room b = stop b 3
 runOf (x ∷ y ∷ z ∷ []) room b = stop b 3
 runOf (kind ∷ hi ∷ lo ∷ value ∷ rest) room b =
     if ltb room 8 then stop b 4 else after (stepOf b kind hi lo value) (runOf rest (room - 8))
-
--- the step of the four bytes that stand at a place
-abbrev pub stepAt : Bench → List ℕ → ℕ → Stepped
-stepAt b batch at = stepOf b (getD batch at 0) (getD batch (at + 1) 0) (getD batch (at + 2) 0) (getD batch (at + 3) 0)
 
 -- the answers' bytes, one answer after the other
 unfoldable pub writtenOf : List Answer → List ℕ
