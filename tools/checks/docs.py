@@ -1,7 +1,7 @@
 """The documents: what they quote is there, their paths and links lead somewhere, and their counts are right."""
 import re
 
-from checks import markdown, places, promises, rules
+from checks import markdown, places, promises, proofs, rules
 from checks.things import Things
 
 PAGES = ("README.md", "docs/PROMISES.md", "docs/RULES.md", "docs/DECISIONS.md", "docs/EVIDENCE.md", "docs/CHECK-TIMES.md",
@@ -112,4 +112,5 @@ def check(top):
     wrong += check_times(things)
     wrong += check_tools(things)
     wrong += places.check(things)
+    wrong += proofs.check(top)
     return list(dict.fromkeys(wrong))

@@ -1,0 +1,26 @@
+"""How a proof may reach for its facts, so that it can be read and survives a change of the code.
+
+A path into the facts has at most three steps back; further ones begin at a waypoint that has a name. Numbers are told by what is known of
+them, and not by a tower of successors.
+"""
+import re
+
+MOST_BACK = 3
+BACK = re.compile(r"(?:\.before\s+){%d,}" % (MOST_BACK + 1))
+TOWER = re.compile(r"\bsuc \(suc \(suc\b")
+
+
+def wrong_lines(text):
+    """The lines of a proof, with what is wrong with each."""
+    for number, line in enumerate(text.split("\n"), 1):
+        if BACK.search(line + " "):
+            yield number, f"a path of more than {MOST_BACK} steps back; give a place on the way a name"
+        if TOWER.search(line):
+            yield number, "a tower of successors"
+
+
+def check(top):
+    """Yields what is wrong with the proofs of all crates."""
+    for path in sorted((top / "crates").glob("*/proofs/**/*.antt")):
+        for number, why in wrong_lines(path.read_text()):
+            yield f"{path.relative_to(top)}:{number}: {why}"
