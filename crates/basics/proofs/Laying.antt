@@ -1,12 +1,14 @@
 -- Laws of `laidAt` and `putAt`: layings one after the other. Assumes nothing.
 use Prim.Native.Nat.{ℕ, _+_, _≤_, _<_}
 use mathlib.Core.Path.{_≡_, refl, sym, ap, _∙_}
+use mathlib.Core.Bool.{Bool, true, false}
 use mathlib.Core.Logic.{_↔_, ⊎-elim}
 use mathlib.Core.List.{List, [], _∷_, _++_, append-assoc, append-nil}
 use native.Mathlib.Nat.{add-zero, zero-add}
 use native.Mathlib.Numerals.{add-one}
 use native.Mathlib.Omega.{arith}
-use borrow.Author.Tests.{le-leb, lt-leb}
+use lib.Dec.{leb}
+use borrow.Author.Tests.{le-leb, lt-leb, leb-true, leb-false}
 use lib.ListN.{length, getD, set, take, drop, length-append, length-take, length-drop, take-append-drop}
 use lib.Seq.{take-at, drop-at, drop-drop, sets, sets-eq, take-suc}
 use Rattle.basics.specs.Lay.{laidAt, fitsAt, putAt, behindOf, Laid, Writes}
@@ -103,6 +105,14 @@ then-writes {t} {u} {s} {p} {q} {r} {v} {w} a b =
     let first : Laid t u p q v = a (omega arith) in
     let len : length u ≡ length t = laid-same first in
     then-laid first (b (omega (arith, first .place)))
+
+-- what a test of room says that a callee made: b is its result
+module _ (m n : ℕ) {b : Bool} (test : b ≡ leb m n) where
+  pub told-fits : b ≡ true → m ≤ n
+  told-fits h = leb-true m n (sym test ∙ h)
+
+  pub told-full : b ≡ false → n < m
+  told-full h = leb-false m n (sym test ∙ h)
 
 -- What every public writer ensures of its bytes w, for all cases: the place behind them, what the buffer then holds, that another buffer
 -- s is as it was, and what the next writer needs. It has shown it when w is laid,

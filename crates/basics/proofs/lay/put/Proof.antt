@@ -1,12 +1,11 @@
 use Prim.Native.Nat.{_+_, _≤_}
-use mathlib.Core.Path.{refl, sym, _∙_}
+use mathlib.Core.Path.{refl}
 use native.Mathlib.Omega.{arith}
 use denote.Ref.{now}
 use lib.ListN.{length}
 use borrow.Author.Needs.{needs}
-use borrow.Author.Tests.{leb-true, leb-false}
 use Rattle.basics.proofs.Cases.{cases}
-use Rattle.basics.proofs.Laying.{put-nothing}
+use Rattle.basics.proofs.Laying.{put-nothing, told-fits, told-full}
 use Rattle.basics.proofs.lay.put.Statement.{statement}
 use Rattle.basics.proofs.lay.put.Tie as tie
 
@@ -15,7 +14,9 @@ has-room-requires c κs = search needs
 
 -- the bytes have room where the code lays them
 room : (c : tie.Then1) → let a = c .before .before .before .before .args in a .at + length (now (a .src)) ≤ length (now (a .dst))
-room c = leb-true _ _ (sym (c .before .has-room .ensures) ∙ c .if1 .taken)
+room c =
+    let a = c .before .before .before .before .args in
+    told-fits (a .at + length (now (a .src))) (length (now (a .dst))) (c .before .has-room .ensures) (c .if1 .taken)
 
 lay-requires : tie.Need-lay-requires
 lay-requires c κs = room (c .before)
@@ -35,7 +36,8 @@ returns c =
 returns-2 : tie.Need-returns-2
 returns-2 c =
     let a = c .before .before .before .before .args in
-    put-nothing (now (a .dst)) (a .at) (now (a .src)) (leb-false _ _ (sym (c .before .has-room .ensures) ∙ c .if1 .left))
+    let full = told-full (a .at + length (now (a .src))) (length (now (a .dst))) (c .before .has-room .ensures) (c .if1 .left) in
+    put-nothing (now (a .dst)) (a .at) (now (a .src)) full
 
 pub put-spec : {M : Type 1} → statement M
 put-spec = tie.close (tie.spec has-room-requires lay-requires add-result same-length returns returns-2)

@@ -1,10 +1,8 @@
-use Prim.Native.Nat.{_+_, _*_, _≤_, _<_}
-use mathlib.Core.Path.{sym, _∙_}
+use Prim.Native.Nat.{_+_, _*_}
 use native.Mathlib.Omega.{arith}
 use denote.Ref.{now}
 use lib.ListN.{length}
-use borrow.Author.Tests.{leb-true, leb-false}
-use Rattle.basics.proofs.Laying.{put-laid, put-nothing}
+use Rattle.basics.proofs.Laying.{put-laid, put-nothing, told-fits, told-full}
 use Rattle.text.specs.Lines.{linesOf, lineCount}
 use Rattle.text.proofs.Lining.{length-lines}
 use borrow.Author.Needs.{needs}
@@ -33,14 +31,14 @@ returns c =
     let asked = laid .before .before .before in
     let a = asked .before .before .before .args in
     let n = length (now (a .bytes)) in
-    let room : a .at + (2 * n + lineCount n) ≤ length (now (a .dst)) = leb-true _ _ (sym (asked .has-room-for .ensures) ∙ laid .before .before .if1 .taken) in
+    let room = told-fits (a .at + (2 * n + lineCount n)) (length (now (a .dst))) (asked .has-room-for .ensures) (laid .before .before .if1 .taken) in
     put-laid (laid .lay-lines .ensures (omega (arith, length-lines (now (a .bytes)))))
 
 returns-2 : tie.Need-returns-2
 returns-2 c =
     let a = c .before .before .before .before .args in
     let n = length (now (a .bytes)) in
-    let full : length (now (a .dst)) < a .at + (2 * n + lineCount n) = leb-false _ _ (sym (c .before .has-room-for .ensures) ∙ c .if1 .left) in
+    let full = told-full (a .at + (2 * n + lineCount n)) (length (now (a .dst))) (c .before .has-room-for .ensures) (c .if1 .left) in
     put-nothing (now (a .dst)) (a .at) (linesOf (now (a .bytes))) (omega (arith, length-lines (now (a .bytes))))
 
 pub put-lines-spec : {M : Type 1} → statement M
