@@ -7,10 +7,6 @@ from checks import antt
 from checks.grounds import Grounds
 
 PRIVATE = "private/"
-# The crates whose definitions are not yet sorted. To turn the check on for one, take it out here.
-UNSORTED = {
-    "basics", "text", "lister",
-}
 
 
 def check(things):
@@ -23,8 +19,6 @@ def check(things):
     believed = grounds.believed()
     for one in grounds.definitions.all:
         path = f"crates/{one.crate}/specs/{one.file}:{one.line}: {one.name}"
-        if one.crate in UNSORTED:
-            continue
         if one.file.startswith(PRIVATE) and one in believed:
             yield f"{path} stands in specs/private/, and a promise or a public contract rests on it"
         elif not one.file.startswith(PRIVATE) and one not in believed:

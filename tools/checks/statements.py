@@ -10,7 +10,7 @@ from checks import antt
 
 # By their paths: the first digits of the sum of all words outside comments.
 SUMS = {
-    "crates/basics/specs/Lay.antt": "d0e6a02ab0eb07a4",
+    "crates/basics/specs/Lay.antt": "eb00da38c261183c",
     "crates/bench/specs/Alone.antt": "1b38a2bdf12bb138",
     "crates/bench/specs/Refusals.antt": "bc8519126422d7eb",
     "crates/control/specs/Write.antt": "cc19ff58d2cfa836",

@@ -11,7 +11,7 @@ use lib.Dec.{leb}
 use borrow.Author.Tests.{le-leb, lt-leb, leb-true, leb-false}
 use lib.ListN.{length, getD, set, take, drop, length-append, length-take, length-drop, take-append-drop}
 use lib.Seq.{take-at, drop-at, drop-drop, sets, sets-eq, take-suc}
-use Rattle.basics.specs.Lay.{laidAt, fitsAt, putAt, behindOf, Laid, Writes}
+use Rattle.basics.specs.Lay.{laidAt, roomAt, putAt, behindOf, Laid, Writes}
 use Rattle.basics.proofs.Cases.{if-yes, if-no}
 use Rattle.basics.proofs.Tests.{lt-or-ge}
 
@@ -44,24 +44,24 @@ module _ (t : List ℕ) (p : ℕ) where
   laid-sets w h = sets-eq w t p h
 
   -- a store with room lays its bytes, and one without leaves the buffer
-  pub put-fits : (w : List ℕ) → p + length w ≤ length t → putAt t p w ≡ laidAt t p w
-  put-fits w h = sym (if-yes (fitsAt t p w) (laidAt t p w) t (laidAt t p w) (le-leb (p + length w) (length t) h) refl)
+  pub put-has-room : (w : List ℕ) → p + length w ≤ length t → putAt t p w ≡ laidAt t p w
+  put-has-room w h = sym (if-yes (roomAt t p w) (laidAt t p w) t (laidAt t p w) (le-leb (p + length w) (length t) h) refl)
 
   pub put-not : (w : List ℕ) → length t < p + length w → putAt t p w ≡ t
-  put-not w h = sym (if-no (fitsAt t p w) (laidAt t p w) t t (lt-leb (p + length w) (length t) h) refl)
+  put-not w h = sym (if-no (roomAt t p w) (laidAt t p w) t t (lt-leb (p + length w) (length t) h) refl)
 
   -- and so its place
-  pub behind-fits : (w : List ℕ) → p + length w ≤ length t → behindOf t p w ≡ p + length w
-  behind-fits w h = sym (if-yes (fitsAt t p w) (p + length w) p (p + length w) (le-leb (p + length w) (length t) h) refl)
+  pub behind-has-room : (w : List ℕ) → p + length w ≤ length t → behindOf t p w ≡ p + length w
+  behind-has-room w h = sym (if-yes (roomAt t p w) (p + length w) p (p + length w) (le-leb (p + length w) (length t) h) refl)
 
   pub behind-not : (w : List ℕ) → length t < p + length w → behindOf t p w ≡ p
-  behind-not w h = sym (if-no (fitsAt t p w) (p + length w) p p (lt-leb (p + length w) (length t) h) refl)
+  behind-not w h = sym (if-no (roomAt t p w) (p + length w) p p (lt-leb (p + length w) (length t) h) refl)
 
 -- a store with room, behind what is laid already
 pub laid-put : (t : List ℕ) (p : ℕ) (v w : List ℕ) (q : ℕ) → q ≡ p + length v → q + length w ≤ length t → putAt (laidAt t p v) q w ≡ laidAt t p (v ++ w)
 laid-put t p v w q e h =
     let len : length (laidAt t p v) ≡ length t = length-laid t p v (omega arith) in
-    put-fits (laidAt t p v) q w (omega arith) ∙ laid-laid t p v w q e h
+    put-has-room (laidAt t p v) q w (omega arith) ∙ laid-laid t p v w q e h
 
 -- one byte more
 pub laid-next : (t : List ℕ) (p : ℕ) (v : List ℕ) (x q : ℕ) → q ≡ p + length v → q + 1 ≤ length t → set (laidAt t p v) q x ≡ laidAt t p (v ++ (x ∷ []))
@@ -80,22 +80,22 @@ take-next s i h = rw add-one (take-suc s i 0 h)
 
 -- a buffer keeps its length
 pub laid-same : {t u : List ℕ} {p q : ℕ} {w : List ℕ} → Laid t u p q w → length u ≡ length t
-laid-same {t} {u} {p} {q} {w} a = ap length (a .holds) ∙ length-laid t p w (omega (arith, a .place, a .fits))
+laid-same {t} {u} {p} {q} {w} a = ap length (a .holds) ∙ length-laid t p w (omega (arith, a .place, a .within))
 
 -- two writers one after the other
 pub then-laid : {t u s : List ℕ} {p q r : ℕ} {v w : List ℕ} → Laid t u p q v → Laid u s q r w → Laid t s p r (v ++ w)
 then-laid {t} {u} {s} {p} {q} {r} {v} {w} a b =
     let len : length u ≡ length t = laid-same a in
-    let far : r ≤ length t = omega (arith, b .fits) in
+    let far : r ≤ length t = omega (arith, b .within) in
     record {
       place = simp length-append (omega (arith, a .place, b .place));
-      fits = far;
+      within = far;
       holds = b .holds ∙ rw (a .holds) (laid-laid t p v w q (a .place) (omega (arith, b .place)));
     }
 
 -- nothing is written without a step
 pub writes-nothing : {t : List ℕ} {p : ℕ} → Writes t t p p []
-writes-nothing {t} {p} = λ room. record { place = omega arith; fits = omega arith; holds = sym (laid-none t p) }
+writes-nothing {t} {p} = λ room. record { place = omega arith; within = omega arith; holds = sym (laid-none t p) }
 
 -- two writers one after the other are one writer, of the bytes of both
 pub then-writes : {t u s : List ℕ} {p q r : ℕ} {v w : List ℕ} → Writes t u p q v → Writes u s q r w → Writes t s p r (v ++ w)
@@ -108,8 +108,8 @@ then-writes {t} {u} {s} {p} {q} {r} {v} {w} a b =
 
 -- what a test of room says that a callee made: b is its result
 module _ (m n : ℕ) {b : Bool} (test : b ≡ leb m n) where
-  pub told-fits : b ≡ true → m ≤ n
-  told-fits h = leb-true m n (sym test ∙ h)
+  pub told-room : b ≡ true → m ≤ n
+  told-room h = leb-true m n (sym test ∙ h)
 
   pub told-full : b ≡ false → n < m
   told-full h = leb-false m n (sym test ∙ h)
@@ -118,8 +118,8 @@ module _ (m n : ℕ) {b : Bool} (test : b ≡ leb m n) where
 -- s is as it was, and what the next writer needs. It has shown it when w is laid,
 pub put-laid : {t u s : List ℕ} {p q : ℕ} {w : List ℕ} → Laid t u p q w → (q ≡ behindOf t p w) × ((u ≡ putAt t p w) × ((s ≡ s) × Writes t u p q w))
 put-laid {t} {u} {s} {p} {q} {w} a =
-    let room : p + length w ≤ length t = omega (arith, a .place, a .fits) in
-    (a .place ∙ sym (behind-fits t p w room), (a .holds ∙ sym (put-fits t p w room), (refl, λ h. a)))
+    let room : p + length w ≤ length t = omega (arith, a .place, a .within) in
+    (a .place ∙ sym (behind-has-room t p w room), (a .holds ∙ sym (put-has-room t p w room), (refl, λ h. a)))
 
 module _ (t : List ℕ) (p : ℕ) (w : List ℕ) where
   -- or when w has no room and nothing is done
@@ -132,7 +132,7 @@ module _ (t : List ℕ) (p : ℕ) (w : List ℕ) where
     λ same.
         ⊎-elim
         (λ (no : length t < p + length w). no)
-        (λ (room : p + length w ≤ length t). absurd (omega (arith, e ∙ behind-fits t p w room)))
+        (λ (room : p + length w ≤ length t). absurd (omega (arith, e ∙ behind-has-room t p w room)))
         (lt-or-ge (length t) (p + length w)),
     λ no. e ∙ behind-not t p w no,
   )

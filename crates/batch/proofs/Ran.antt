@@ -18,9 +18,9 @@ use Rattle.replay.proofs.Replaying.{length-written}
 use Rattle.batch.specs.Fresh.{freshBench, freshRunOf, Bounded}
 
 -- no more answers than have room
-pub answers-fit : (batch : List ℕ) (room : ℕ) → 8 * length (freshRunOf batch room .answers) ≤ room
+pub answers-have-room : (batch : List ℕ) (room : ℕ) → 8 * length (freshRunOf batch room .answers) ≤ room
 unfolding freshRunOf
-answers-fit batch room = sound batch room freshBench .has-room
+answers-have-room batch room = sound batch room freshBench .has-room
 
 -- what the replay gives on chips that are fresh
 pub ran : (batch out : List ℕ) {out′ : List ℕ} {r : Replayed} {c : Controller} {m : Multiplexer} → c ≡ controller.freshOf → m ≡ multiplexer.freshOf

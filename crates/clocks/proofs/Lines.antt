@@ -116,8 +116,8 @@ lines-at-once r p (suc m) w k =
     ∙ iterate-run line (linesOn r p) (suc m)
     (λ j l. one-line r p (k .first (omega arith)) (k .plain (omega arith)) w j (k .lines .clear j l) (omega (arith, k .lines .below))))
 
-pub line-times-fit : (m end : ℕ) → m < 256 → end < 256 → m * (end + 1) < 65536
-line-times-fit m end p q = let l : m * (end + 1) ≤ 255 * 256 = mul-le-mul {n₂ = 255} {m₂ = 256} (omega arith) (omega arith) in omega arith
+pub line-times-lt : (m end : ℕ) → m < 256 → end < 256 → m * (end + 1) < 65536
+line-times-lt m end p q = let l : m * (end + 1) ≤ 255 * 256 = mul-le-mul {n₂ = 255} {m₂ = 256} (omega arith) (omega arith) in omega arith
 
 -- one less than what a callee gave
 pub less-one : (z x y : ℕ) → z ≡ x - 1 → x ≡ y → z ≡ y - 1

@@ -36,14 +36,14 @@ put-lt n k v bits hk hv hb =
 pub record Put (k v bits w : ℕ) : Type 0 where
   pub part : bits / w ≤ bits
   pub is : (bits / w / 2 * 2 + v) * w + bits % w ≡ putBit k v bits
-  pub fits : (bits / w / 2 * 2 + v) * w + bits % w < 65536
+  pub lt : (bits / w / 2 * 2 + v) * w + bits % w < 65536
 
 pub put : (k v bits w : ℕ) → k < 16 → v < 2 → bits < 65536 → Weight k w → Put k v bits w
 unfolding putBit
 put k v bits w hk hv hb p =
     let is : (bits / w / 2 * 2 + v) * w + bits % w ≡ putBit k v bits = rw (p .is) in
     let l : putBit k v bits < 2 ^ 16 = put-lt 16 k v bits hk hv hb in
-    record { part = div-le-self bits w; is = is; fits = omega arith }
+    record { part = div-le-self bits w; is = is; lt = omega arith }
 
 -- ---- bit by bit
 

@@ -18,9 +18,12 @@ use Rattle.text.proofs.Hexing.{length-hex}
 use Rattle.replay.specs.Run.{Run, writtenOf, returnedOf}
 use Rattle.replay.specs.declared.run.Replayed.{Replayed}
 use Rattle.batch.specs.Fresh.{mostOutput, freshRunOf}
-use Rattle.batch.proofs.Ran.{answers-fit}
-use Rattle.lister.specs.Lines.{oddOf, lineEndOf, markedOf, markedLength, answerLinesOf, endOf}
-use Rattle.lister.specs.Listing.{listedOf, batchListingOf, listingOf, listingLength}
+use Rattle.batch.proofs.Ran.{answers-have-room}
+use Rattle.lister.specs.Lines.{oddOf, lineEndOf, answerLinesOf, endOf}
+use Rattle.lister.specs.private.Marked.{markedOf}
+use Rattle.lister.specs.private.Lengths.{markedLength}
+use Rattle.lister.specs.Listing.{listedOf, batchListingOf, listingOf}
+use Rattle.lister.specs.private.Lengths.{listingLength}
 
 -- the lines of answers that were written one after the other, whatever stands behind them
 lines-answers : (l : List Answer) (t : List ℕ) → rowsOf markedOf (length l) (writtenOf l ++ t) ≡ answerLinesOf l
@@ -52,9 +55,9 @@ length-answers [] = omega arith
 length-answers (a ∷ l) = simp length-append (omega (arith, length-marked a, length-answers l))
 
 -- every listing has room
-pub listing-fits : (input : List ℕ) → length (listingOf input) ≤ listingLength
+pub listing-has-room : (input : List ℕ) → length (listingOf input) ≤ listingLength
 unfolding listingOf batchListingOf listedOf
-listing-fits input =
+listing-has-room input =
     let run = freshRunOf input mostOutput in
     if-both
     (λ (l : List ℕ). length l ≤ listingLength)
@@ -62,4 +65,4 @@ listing-fits input =
     tooLong
     (listedOf run)
     (λ yes. omega arith)
-    (λ no. simp length-append (omega (arith, length-answers (run .answers), answers-fit input mostOutput)))
+    (λ no. simp length-append (omega (arith, length-answers (run .answers), answers-have-room input mostOutput)))

@@ -3,25 +3,10 @@ use Prim.Native.Nat.{ℕ, _+_, _%_}
 use mathlib.Core.Bool.{Bool, true, false, _&&_}
 use mathlib.Core.List.{List, [], _∷_, _++_}
 use lib.Dec.{eqb, leb}
-use lib.ListN.{length, getD}
 use Rattle.answer.specs.Answer.{bytesOf}
 use Rattle.answer.specs.declared.Answer.{Answer}
 use Rattle.text.specs.Hex.{hexOf}
-use Rattle.text.specs.Lines.{newline, lineLength}
-
--- the answer that eight bytes are
-abbrev pub answerOf : List ℕ → Answer
-answerOf b =
-    record {
-      kind = getD b 0 0;
-      refusal = getD b 1 0;
-      b0 = getD b 2 0;
-      b1 = getD b 3 0;
-      b2 = getD b 4 0;
-      b3 = getD b 5 0;
-      b4 = getD b 6 0;
-      b5 = getD b 7 0;
-    }
+use Rattle.text.specs.Lines.{newline}
 
 -- The old program marked some answers, and the listing still does: those of kind 6 with the RAM flag, the lowest of the flags, and a
 -- select of 1 to 6.
@@ -42,14 +27,6 @@ unfoldable pub answerLinesOf : List Answer → List ℕ
 answerLinesOf [] = []
 answerLinesOf (a ∷ l) = (hexOf (bytesOf a) ++ lineEndOf (oddOf a)) ++ answerLinesOf l
 
--- no line is longer than this
-abbrev pub markedLength : ℕ
-markedLength = lineLength + length mark
-
 -- `end`, the ending number and the end of the line
 abbrev pub endOf : ℕ → List ℕ
 endOf ending = 101 ∷ 110 ∷ 100 ∷ 32 ∷ (48 + ending) ∷ 10 ∷ []
-
--- The line of an answer that is eight bytes: what the lister's own functions say of the bytes that they are given.
-unfoldable pub markedOf : List ℕ → List ℕ
-markedOf bytes = hexOf bytes ++ lineEndOf (oddOf (answerOf bytes))

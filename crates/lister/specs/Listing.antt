@@ -1,13 +1,13 @@
 -- What the listing program prints (document 01, "Records and what comes back").
-use Prim.Native.Nat.{ℕ, _+_, _*_}
+use Prim.Native.Nat.{ℕ}
 use mathlib.Core.List.{List, [], _∷_, _++_}
 use lib.Dec.{ltb}
 use lib.ListN.{length}
 use Rattle.basics.specs.Choice.{if_then_else_}
 use Rattle.replay.specs.Run.{Run}
-use Rattle.batch.specs.Fresh.{mostBytes, mostAnswers, mostOutput, freshRunOf}
+use Rattle.batch.specs.Fresh.{mostBytes, mostOutput, freshRunOf}
 use Rattle.text.specs.Speech.{tooLong}
-use Rattle.lister.specs.Lines.{markedLength, answerLinesOf, endOf}
+use Rattle.lister.specs.Lines.{answerLinesOf, endOf}
 
 -- a run's answers, each on its line, and its ending
 unfoldable pub listedOf : Run → List ℕ
@@ -20,7 +20,3 @@ batchListingOf batch = listedOf (freshRunOf batch mostOutput)
 -- more bytes than a batch may have are not replayed at all
 unfoldable pub listingOf : List ℕ → List ℕ
 listingOf input = if ltb mostBytes (length input) then tooLong else batchListingOf input
-
--- no listing is longer: a line for each answer, and the last line
-abbrev pub listingLength : ℕ
-listingLength = markedLength * mostAnswers + length (endOf 0)

@@ -15,11 +15,12 @@ use Rattle.replay.specs.Run.{writtenOf, returnedOf}
 use Rattle.replay.specs.declared.run.Replayed.{Replayed}
 use Rattle.replay.proofs.Replaying.{length-written}
 use Rattle.batch.specs.Fresh.{mostBytes, mostOutput, freshRunOf}
-use Rattle.batch.proofs.Ran.{answers-fit}
+use Rattle.batch.proofs.Ran.{answers-have-room}
 use Rattle.text.specs.Lines.{linesOf}
 use Rattle.text.specs.Speech.{tooLong}
 use Rattle.text.proofs.Lining.{length-lines}
-use Rattle.rooms_text.specs.Rooms.{roomOf, countsOf, ranTextOf, shownOf, noRoom, headBytes, roomTextOf, roomTextLength}
+use Rattle.rooms_text.specs.Rooms.{roomOf, countsOf, ranTextOf, shownOf, noRoom, headBytes, roomTextOf}
+use Rattle.rooms_text.specs.private.Lengths.{roomTextLength}
 
 -- the counts and then the whole output, of what a replay gave
 pub shows : {t u s out′ told : List ℕ} {p q : ℕ} {r : Replayed} (batch out : List ℕ) → r ≡ returnedOf (freshRunOf batch (length out))
@@ -48,20 +49,20 @@ length-counts : (ending taken answers : ℕ) → length (countsOf ending taken a
 unfolding countsOf
 length-counts ending taken answers = refl
 
-shown-fits : (batch out : List ℕ) → length out ≤ mostOutput → length (shownOf batch out) ≤ roomTextLength
+shown-has-room : (batch out : List ℕ) → length out ≤ mostOutput → length (shownOf batch out) ≤ roomTextLength
 unfolding shownOf ranTextOf
-shown-fits batch out h =
+shown-has-room batch out h =
     let run = freshRunOf batch (length out) in
     let told = countsOf (run .ending) (run .taken) (length (run .answers)) in
     let left = laidAt out 0 (writtenOf (run .answers)) in
-    let same : length left ≡ length out = length-laid out 0 (writtenOf (run .answers)) (omega (arith, length-written (run .answers), answers-fit batch (length out))) in
+    let same : length left ≡ length out = length-laid out 0 (writtenOf (run .answers)) (omega (arith, length-written (run .answers), answers-have-room batch (length out))) in
     simp length-append (omega (arith, length-lines told, length-lines left, length-counts (run .ending) (run .taken) (length (run .answers))))
 
 -- every text has room
-pub room-text-fits : (input : List ℕ) → length (roomTextOf input) ≤ roomTextLength
+pub room-text-has-room : (input : List ℕ) → length (roomTextOf input) ≤ roomTextLength
 unfolding roomTextOf
-room-text-fits input =
+room-text-has-room input =
     let n = roomOf (getD input 0 0) (getD input 1 0) in
     let out : length {A = ℕ} (replicate n 0xA5) ≤ mostOutput = omega (arith, length-replicate {A = ℕ} n 0xA5, room-most (getD input 0 0) (getD input 1 0)) in
-    let Fits : List ℕ → Type 0 = λ (l : List ℕ). length l ≤ roomTextLength in
-    if-both Fits _ _ _ (λ yes. omega arith) (λ no. if-both Fits _ _ _ (λ yes. omega arith) (λ no. shown-fits (drop headBytes input) (replicate n 0xA5) out))
+    let Short : List ℕ → Type 0 = λ (l : List ℕ). length l ≤ roomTextLength in
+    if-both Short _ _ _ (λ yes. omega arith) (λ no. if-both Short _ _ _ (λ yes. omega arith) (λ no. shown-has-room (drop headBytes input) (replicate n 0xA5) out))

@@ -1,6 +1,6 @@
 -- What the program `rooms` prints. The listing gives every answer room, so a replay that ends with 4 (document 01, "Records and what comes
 -- back") is seen here only. Decision: the form of the input and of the text is the project's own.
-use Prim.Native.Nat.{ℕ, _+_, _*_}
+use Prim.Native.Nat.{ℕ, _+_}
 use mathlib.Core.List.{List, [], _∷_, _++_}
 use lib.Dec.{ltb}
 use lib.ListN.{length, getD, drop, replicate}
@@ -9,7 +9,7 @@ use Rattle.basics.specs.Choice.{if_then_else_}
 use Rattle.basics.specs.Lay.{laidAt}
 use Rattle.replay.specs.Run.{Run, writtenOf}
 use Rattle.batch.specs.Fresh.{mostBytes, mostOutput, freshRunOf}
-use Rattle.text.specs.Lines.{linesOf, lineCount, lineLength}
+use Rattle.text.specs.Lines.{linesOf}
 use Rattle.text.specs.Speech.{tooLong}
 
 -- the room that two bytes ask for; more than all answers need counts as that
@@ -44,7 +44,3 @@ roomTextOf input =
     if ltb (length input) headBytes then noRoom
     else if ltb (headBytes + mostBytes) (length input) then tooLong
     else shownOf (drop headBytes input) (replicate (roomOf (getD input 0 0) (getD input 1 0)) 0xA5)
-
--- no text is longer: a line for the counts, and those of the longest output
-abbrev pub roomTextLength : ℕ
-roomTextLength = lineLength * (1 + lineCount mostOutput)

@@ -16,9 +16,6 @@ newline = 10 ∷ []
 unfoldable pub lineOf : List ℕ → List ℕ
 lineOf bytes = hexOf bytes ++ newline
 
--- how long a line is when it is full: two digits for each byte, and its end
-abbrev pub lineLength : ℕ
-lineLength = 2 * perLine + length newline
 
 -- what f makes of the bytes of a line after those of another, n times
 unfoldable pub rowsOf : (List ℕ → List ℕ) → ℕ → List ℕ → List ℕ

@@ -20,7 +20,8 @@ returns : tie.Need-returns
 returns c =
     let replayed = c .before .before in
     let chips = replayed .before in
-    let a = chips .before .before .before .before .before .args in
+    let lent = chips .before .before in
+    let a = lent .before .before .before .args in
     ran (now (a .batch)) (now (a .out)) (chips .before .fresh .ensures) (chips .fresh2 .ensures) (replayed .replay .ensures .0) (replayed .replay .ensures .1 .0)
 
 pub replay-fresh-spec : {M : Type 1} → statement M

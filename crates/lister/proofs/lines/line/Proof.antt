@@ -1,5 +1,5 @@
 use Rattle.basics.proofs.Laying.{then-writes}
-use Rattle.lister.specs.Lines.{markedOf}
+use Rattle.lister.specs.private.Marked.{markedOf}
 use borrow.Author.Needs.{needs}
 use Rattle.lister.proofs.lines.line.Statement.{statement}
 use Rattle.lister.proofs.lines.line.Tie as tie
@@ -21,7 +21,8 @@ unfolding markedOf
 returns c =
     let ended = c .before .before in
     let odd = ended .before in
-    let digits = odd .before .before .before .before in
+    let lent = odd .before in
+    let digits = lent .before .before .before in
     then-writes (digits .put-hex .ensures .1 .1 .1) (rw (odd .is-odd .ensures) at (ended .line-end .ensures))
 
 pub line-spec : {M : Type 1} → statement M

@@ -7,7 +7,7 @@ use Rattle.basics.specs.Lay.{Writes}
 use Rattle.basics.proofs.Laying.{writes-nothing}
 use Rattle.text.specs.Lines.{perLine, rowsOf}
 use Rattle.text.proofs.Lining.{row-part, writes-row}
-use Rattle.lister.specs.Lines.{markedOf}
+use Rattle.lister.specs.private.Marked.{markedOf}
 use Rattle.lister.proofs.lines.lines.Statement.{statement}
 use Rattle.lister.proofs.lines.lines.Tie as tie
 
@@ -48,7 +48,8 @@ loop-less c = omega arith
 loop-again : tie.Need-loop-again Inv-loop μ-loop
 loop-again c =
     let lined = c .before .before in
-    let turn = lined .before .before .before .before in
+    let sliced = lined .before in
+    let turn = sliced .before .before .before in
     let l = turn .loop in
     let answers = now (turn .before .before .before .args .answers) in
     let part = row-part answers (l .i) (perLine * l .i + perLine) (omega arith) (omega arith) in
@@ -59,8 +60,9 @@ same-length c = c .before .loop .inv .1
 
 returns : tie.Need-returns Inv-loop μ-loop
 returns c =
-    let l = c .before .loop in
-    let e : l .i ≡ c .before .before .before .before .args .n = omega arith in
+    let turn = c .before in
+    let l = turn .loop in
+    let e : l .i ≡ turn .before .before .before .args .n = omega arith in
     rw (← e) (l .inv .2)
 
 pub lines-spec : {M : Type 1} → statement M

@@ -25,7 +25,8 @@ lines-requires c κs =
 end-line-requires : tie.Need-end-line-requires
 end-line-requires c κs =
     let lined = c .before .before .before in
-    let replayed = lined .before .before .before .before in
+    let lent = lined .before in
+    let replayed = lent .before .before .before in
     omega (arith, replayed .replay-fresh .ensures .1 .1 .1 .ending)
 
 same-length : tie.Need-same-length
@@ -34,9 +35,12 @@ same-length c = search needs
 returns : tie.Need-returns
 returns c =
     let ended = c .before .before in
-    let lined = ended .before .before .before .before in
-    let replayed = lined .before .before .before .before in
-    let batch = now (replayed .before .before .before .before .args .batch) in
+    let shown = ended .before in
+    let lined = shown .before .before .before in
+    let lent = lined .before in
+    let replayed = lent .before .before .before in
+    let made = replayed .before in
+    let batch = now (made .before .before .before .args .batch) in
     let r = replayed .replay-fresh .ensures in
     lists batch (replicate mostOutput 0) (length-replicate {A = ℕ} mostOutput 0) (r .0) (r .1 .0) (lined .lines .ensures) (ended .end-line .ensures)
 

@@ -9,7 +9,7 @@ use Rattle.basics.specs.Choice.{if_then_else_}
 use Rattle.batch.specs.Fresh.{mostBytes, mostOutput}
 use Rattle.text.proofs.Whole.{whole-text}
 use Rattle.rooms_text.specs.Rooms.{headBytes, roomTextOf}
-use Rattle.rooms_text.proofs.Shown.{front, length-front, room-text-fits}
+use Rattle.rooms_text.proofs.Shown.{front, length-front, room-text-has-room}
 use borrow.Author.Needs.{needs}
 use Rattle.rooms_text.proofs.rooms.room.Statement.{statement}
 use Rattle.rooms_text.proofs.rooms.room.Tie as tie
@@ -25,7 +25,7 @@ unfolding roomTextOf if_then_else_
 returns c =
     let short = c .before .before .before in
     let input = now (short .before .before .args .input) in
-    whole-text (omega (arith, room-text-fits input)) (rw (lt-ltb _ headBytes (short .if1 .taken)) (c .put .ensures .1 .1 .1))
+    whole-text (omega (arith, room-text-has-room input)) (rw (lt-ltb _ headBytes (short .if1 .taken)) (c .put .ensures .1 .1 .1))
 
 slice-aggregate-put-2 : tie.Need-slice-aggregate-put-2
 slice-aggregate-put-2 c = search needs
@@ -39,7 +39,7 @@ returns-2 c =
     let long = c .before .before .before in
     let input = now (long .before .before .before .args .input) in
     whole-text
-    (omega (arith, room-text-fits input))
+    (omega (arith, room-text-has-room input))
     (rw (le-ltb _ headBytes (long .before .if1 .left), lt-ltb (headBytes + mostBytes) _ (long .if2 .taken)) (c .put2 .ensures .1 .1 .1))
 
 shared-slice-read-room-of : tie.Need-shared-slice-read-room-of
@@ -75,14 +75,15 @@ returns-3 : tie.Need-returns-3
 unfolding roomTextOf if_then_else_
 returns-3 c =
     let shown = c .before in
-    let read = shown .before .before .before .before in
+    let sliced = shown .before in
+    let read = sliced .before .before .before in
     let tests = read .before .before .before in
     let r = read .room-of in
     let input = now (tests .before .before .before .args .input) in
     let rest : take (length input - headBytes) (drop headBytes input) ≡ drop headBytes input =
     take-all (length input - headBytes) (drop headBytes input) (simp length-drop (omega arith)) in
     whole-text
-    (omega (arith, room-text-fits input))
+    (omega (arith, room-text-has-room input))
     (rw (le-ltb _ headBytes (tests .before .if1 .left), le-ltb (headBytes + mostBytes) _ (tests .if2 .left))
     (rw (rest, front (r .result) mostOutput 165 (r .ensures .1), r .ensures .0) at (shown .shown .ensures)))
 

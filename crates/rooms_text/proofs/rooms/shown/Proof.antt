@@ -12,7 +12,10 @@ cast-counts : tie.Need-cast-counts
 cast-counts c = let replayed = c .before .before .before in omega (arith, replayed .replay-fresh .ensures .1 .1 .1 .taken)
 
 cast-counts-2 : tie.Need-cast-counts-2
-cast-counts-2 c = let replayed = c .before .before .before .before in omega (arith, replayed .replay-fresh .ensures .1 .1 .1 .answers)
+cast-counts-2 c =
+    let first = c .before in
+    let replayed = first .before .before .before in
+    omega (arith, replayed .replay-fresh .ensures .1 .1 .1 .answers)
 
 counts-requires : tie.Need-counts-requires
 counts-requires c κs = search needs
@@ -35,10 +38,13 @@ same-length-2 c = search needs
 returns : tie.Need-returns
 returns c =
     let outputs = c .before .before in
-    let lined = outputs .before .before .before .before .before in
+    let between = outputs .before .before in
+    let lined = between .before .before .before in
     let told = lined .before .before .before in
-    let replayed = told .before .before .before .before .before in
-    let a = replayed .before .before .before .before .before .args in
+    let cast = told .before .before in
+    let replayed = cast .before .before .before in
+    let lent = replayed .before .before in
+    let a = lent .before .before .before .args in
     let r = replayed .replay-fresh .ensures in
     shows (now (a .batch)) (now (a .out)) (r .0) (r .1 .0) (told .counts .ensures) (lined .put-lines .ensures .1 .1 .1) (outputs .put-lines2 .ensures .1 .1 .1)
 

@@ -14,7 +14,7 @@ less : (at ends room n : ℕ) → n ≤ room → leb (at + ends) (room - n) ≡ 
 less at ends room n h =
     ⊎-elim
     (λ (full : room - n < at + ends). lt-leb (at + ends) (room - n) full ∙ sym (lt-leb (at + (n + ends)) room (omega arith)))
-    (λ (fits : at + ends ≤ room - n). le-leb (at + ends) (room - n) fits ∙ sym (le-leb (at + (n + ends)) room (omega arith)))
+    (λ (enough : at + ends ≤ room - n). le-leb (at + ends) (room - n) enough ∙ sym (le-leb (at + (n + ends)) room (omega arith)))
     (lt-or-ge (room - n) (at + ends))
 
 returns : tie.Need-returns

@@ -56,8 +56,9 @@ same-length c = c .before .loop .inv .1
 
 returns : tie.Need-returns Inv-loop μ-loop
 returns c =
-    let l = c .before .loop in
-    let src = now (c .before .before .before .before .args .src) in
+    let turn = c .before in
+    let l = turn .loop in
+    let src = now (turn .before .before .before .args .src) in
     rw (take-all (l .i) src (omega arith)) at (l .inv .2)
 
 pub lay-hex-spec : {M : Type 1} → statement M

@@ -60,8 +60,9 @@ same-length c = c .before .loop .inv .1
 
 returns : tie.Need-returns Inv-loop μ-loop
 returns c =
-    let l = c .before .loop in
-    let e : l .i ≡ c .before .before .before .before .args .n = omega arith in
+    let turn = c .before in
+    let l = turn .loop in
+    let e : l .i ≡ turn .before .before .before .args .n = omega arith in
     rw (← e) (l .inv .2)
 
 pub lay-lines-spec : {M : Type 1} → statement M

@@ -20,7 +20,8 @@ returns : tie.Need-returns
 unfolding lineOf
 returns c =
     let ended = c .before .before in
-    let digits = ended .before .before .before .before .before in
+    let lent = ended .before .before in
+    let digits = lent .before .before .before in
     then-writes (digits .put-hex .ensures .1 .1 .1) (ended .put .ensures .1 .1 .1)
 
 pub line-spec : {M : Type 1} → statement M

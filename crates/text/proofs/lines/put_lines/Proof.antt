@@ -2,7 +2,7 @@ use Prim.Native.Nat.{_+_, _*_}
 use native.Mathlib.Omega.{arith}
 use denote.Ref.{now}
 use lib.ListN.{length}
-use Rattle.basics.proofs.Laying.{put-laid, put-nothing, told-fits, told-full}
+use Rattle.basics.proofs.Laying.{put-laid, put-nothing, told-room, told-full}
 use Rattle.text.specs.Lines.{linesOf, lineCount}
 use Rattle.text.proofs.Lining.{length-lines}
 use borrow.Author.Needs.{needs}
@@ -31,14 +31,15 @@ returns c =
     let asked = laid .before .before .before in
     let a = asked .before .before .before .args in
     let n = length (now (a .bytes)) in
-    let room = told-fits (a .at + (2 * n + lineCount n)) (length (now (a .dst))) (asked .has-room-for .ensures) (laid .before .before .if1 .taken) in
+    let room = told-room (a .at + (2 * n + lineCount n)) (length (now (a .dst))) (asked .has-room-for .ensures) (laid .before .before .if1 .taken) in
     put-laid (laid .lay-lines .ensures (omega (arith, length-lines (now (a .bytes)))))
 
 returns-2 : tie.Need-returns-2
 returns-2 c =
-    let a = c .before .before .before .before .args in
+    let asked = c .before in
+    let a = asked .before .before .before .args in
     let n = length (now (a .bytes)) in
-    let full = told-full (a .at + (2 * n + lineCount n)) (length (now (a .dst))) (c .before .has-room-for .ensures) (c .if1 .left) in
+    let full = told-full (a .at + (2 * n + lineCount n)) (length (now (a .dst))) (asked .has-room-for .ensures) (c .if1 .left) in
     put-nothing (now (a .dst)) (a .at) (linesOf (now (a .bytes))) (omega (arith, length-lines (now (a .bytes))))
 
 pub put-lines-spec : {M : Type 1} → statement M
