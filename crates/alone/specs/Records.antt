@@ -12,7 +12,7 @@ use Rattle.record.specs.declared.kinds.Decoded.the-variants.{Known, Refused}
 use Rattle.alone.specs.Events.{told, onWrite, onRead, onClocks, onStrike, onReset}
 use Rattle.alone.specs.declared.events.Told.{Told}
 
--- an event that is for another chip: the controller stays as it is, and no body byte is its own
+-- An event that is for another chip, which no record of the three kinds is. Decision: the controller stays as it is, with a zero body.
 abbrev pub idle : Controller → ℕ → Told
 idle c kind = told c (plainOf kind 0)
 

@@ -13,7 +13,7 @@ use Rattle.record.specs.declared.kinds.Decoded.{Decoded}
 use Rattle.record.specs.declared.kinds.Decoded.the-variants.{Known, Refused}
 use Rattle.bodies.specs.Bodies.{locatedAnswerOf}
 use Rattle.bodies.proofs.Located.{located-refused}
-use Rattle.alone.specs.Events as alone
+use Rattle.alone.proofs.Done.{write-done, read-done, clocks-done, strike-done, reset-done}
 use Rattle.bench.specs.Step.{onReset, onCycle, onFetches, onLevels, onLocate, onEvent, onDecoded, stepOf}
 use Rattle.bench.specs.Refusals.{eventRefusalOf, Refusals}
 use Rattle.bench.specs.declared.step.Bench.{Bench}
@@ -31,8 +31,8 @@ module _ (b : Bench) (kind : ℕ) where
     pub told : s .answer .refusal ≡ number
     pub still : (number ≡ 0 → ⊥) → s ≡ record { bench = b; answer = plainOf kind number }
 
-  done : (s : Stepped) → s .answer .kind ≡ kind → s .answer .refusal ≡ 0 → Due 0 s
-  done s k z = record { first = k; told = z; still = λ h. absurd (h refl) }
+  done : (s : Stepped) → (s .answer .kind ≡ kind) × (s .answer .refusal ≡ 0) → Due 0 s
+  done s k = record { first = k .0; told = k .1; still = λ h. absurd (h refl) }
 
   refused : (number : ℕ) → Due number (record { bench = b; answer = plainOf kind number })
   refused number = record { first = refl; told = refl; still = λ h. refl }
@@ -42,17 +42,17 @@ module _ (b : Bench) (kind : ℕ) where
       record { first = refl; told = refl; still = λ h. ap (λ (a : Answer). record { bench = b; answer = a }) (located-refused kind l h) }
 
   outcome : (d : Decoded) → Due (numberDue b d) (onDecoded b kind d)
-  unfolding onDecoded onEvent alone.onWrite alone.onRead alone.onClocks alone.onStrike alone.onReset onReset onCycle onFetches onLevels onLocate if_then_else_
+  unfolding onDecoded onEvent onReset onCycle onFetches onLevels onLocate if_then_else_
   outcome (Refused r) = refused _
-  outcome (Known (Write rs value)) = done _ refl refl
-  outcome (Known (Read rs)) = done _ refl refl
-  outcome (Known (Clocks n)) = done _ refl refl
-  outcome (Known Strike) = done _ refl refl
-  outcome (Known (Reset true)) = done _ refl refl
-  outcome (Known (Reset false)) = done _ refl refl
-  outcome (Known (Cycle address read)) = done _ refl refl
-  outcome (Known (Fetches n)) = done _ refl refl
-  outcome (Known (Levels hs da0)) = done _ refl refl
+  outcome (Known (Write rs value)) = done _ (write-done (b .controller) kind rs value)
+  outcome (Known (Read rs)) = done _ (read-done (b .controller) kind rs)
+  outcome (Known (Clocks n)) = done _ (clocks-done (b .controller) kind n)
+  outcome (Known Strike) = done _ (strike-done (b .controller) kind)
+  outcome (Known (Reset true)) = done _ (refl, refl)
+  outcome (Known (Reset false)) = done _ (reset-done (b .controller) kind)
+  outcome (Known (Cycle address read)) = done _ (refl, refl)
+  outcome (Known (Fetches n)) = done _ (refl, refl)
+  outcome (Known (Levels hs da0)) = done _ (refl, refl)
   outcome (Known Locate) = located (locateOf (b .controller))
 
 pub refusals : (b : Bench) (kind hi lo value : ℕ) → Refusals b kind hi lo value

@@ -6,8 +6,9 @@ use Rattle.basics.specs.Iterate.{iterate}
 use Rattle.basics.proofs.Iterating.{iterate-keeps}
 use Rattle.raster.specs.Scan.{topOf, nextOf}
 use Rattle.raster.specs.declared.registers.Registers.{Registers}
-use Rattle.controller.specs.Chip.{arrivedOf, resetOf, stepOf, clockOf, strikeOf}
-use Rattle.pen.specs.Pen.{noPen, strikeAt, struckOf}
+use Rattle.controller.specs.Chip.{arrivedOf, resetOf, writeOf, stepOf, clockOf, strikeOf}
+use Rattle.pen.specs.Pen.{noPen, struckOf}
+use Rattle.controller.specs.Chip.{strikeAt}
 use Rattle.controller.specs.Reads.{readOf}
 use Rattle.controller.specs.declared.chip.Controller.{Controller}
 use Rattle.pen.specs.declared.pen.Pen.{Pen}
@@ -53,6 +54,15 @@ module _ (c : Controller) where
 
   pub read-scan : (rs : Bool) → readOf c rs .controller .scan ≡ c .scan
   read-scan rs = after-read (λ (d : Controller). d .scan ≡ c .scan) c refl refl rs
+
+  -- a write keeps all but the registers
+  pub write-scan : (rs : Bool) (v : ℕ) → writeOf c rs v .scan ≡ c .scan
+  unfolding writeOf
+  write-scan rs v = refl
+
+  pub write-pen : (rs : Bool) (v : ℕ) → writeOf c rs v .pen ≡ c .pen
+  unfolding writeOf
+  write-pen rs v = refl
 
   -- a reset keeps the registers, and begins at the top of field 0 with a pen that has not struck
   pub reset-regs : resetOf c .regs ≡ c .regs

@@ -17,7 +17,8 @@ use Rattle.raster.specs.declared.registers.Registers.{Registers}
 use Rattle.raster.proofs.Widths.{top-within, next-within, arrive-within}
 use Rattle.facts.proofs.Addresses.{latch-lt}
 use Rattle.controller.specs.Writes.{keptOf, addressedOf, storedOf, writtenOf}
-use Rattle.pen.specs.Pen.{strikeAt, emptiedOf}
+use Rattle.pen.specs.Pen.{emptiedOf}
+use Rattle.controller.specs.Chip.{strikeAt}
 use Rattle.pen.proofs.Pens.{none-latch, struck-newest, emptied-newest}
 use Rattle.controller.specs.Chip.{noSync, noRegisters, withPen, arrivedOf, freshOf, resetOf, writeOf, stepOf, clockOf, strikeOf}
 use Rattle.controller.specs.Reads.{readOf}

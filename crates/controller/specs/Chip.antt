@@ -6,13 +6,15 @@ use lib.ListN.{replicate}
 use Rattle.basics.specs.Iterate.{iterate}
 use Rattle.raster.specs.Scan.{topOf, nextOf}
 use Rattle.raster.specs.Sync.{arriveOf}
-use Rattle.facts.specs.Facts.{factsOf}
+use Rattle.facts.specs.Facts.{pictureOf, latchOf, factsOf}
 use Rattle.raster.specs.declared.registers.Registers.{Registers}
 use Rattle.facts.specs.declared.facts.Facts.{Facts}
+use Rattle.raster.specs.declared.scan.Scan.{Scan}
 use Rattle.raster.specs.declared.sync.Sync.{Sync}
-use Rattle.pen.specs.Pen.{noPen, strikeAt, struckOf}
+use Rattle.pen.specs.Pen.{noPen, struckOf}
 use Rattle.controller.specs.Writes.{writtenOf}
 use Rattle.pen.specs.declared.pen.Pen.{Pen}
+use Rattle.pen.specs.declared.pen.Strike.{Strike}
 use Rattle.controller.specs.declared.chip.Controller.{Controller}
 
 -- nothing shown by a delayed pin yet: both facts false
@@ -68,6 +70,10 @@ clockOf n c = iterate stepOf n c
 -- the controller with another pen
 abbrev pub withPen : Pen → Controller → Controller
 withPen pen c = record { regs = c .regs; scan = c .scan; sync = c .sync; left = c .left; pen = pen }
+
+-- what a strike at a character is: the latch, and whether the character is in the picture (the fact, not the pin)
+abbrev pub strikeAt : Registers → Scan → Strike
+strikeAt r s = record { latch = latchOf r s; inside = pictureOf r s }
 
 -- a strike at the character that the scan is at
 unfoldable pub strikeOf : Controller → Controller

@@ -1,7 +1,7 @@
 -- Demand 3, proved. Assumes nothing.
-use Prim.Native.Nat.{_<_}
+use Prim.Native.Nat.{ℕ, _<_}
 use mathlib.Core.Path.{_≡_, refl, ap, ap₂, _∙_}
-use mathlib.Core.Bool.{true, false}
+use mathlib.Core.Bool.{Bool, true, false}
 use mathlib.Core.List.{List, [], _∷_, _++_, map}
 use mathlib.Core.Logic.{_⊎_, inl, inr, ⊎-elim}
 use native.Mathlib.Omega.{arith}
@@ -12,13 +12,16 @@ use Rattle.raster.specs.declared.scan.Scan.{Scan}
 use Rattle.facts.specs.Facts.{pictureOf, latchOf}
 use Rattle.facts.proofs.Addresses.{in-picture}
 use Rattle.controller.specs.Chip.{freshOf, resetOf, clockOf, withPen, strikeOf}
-use Rattle.pen.specs.Pen.{strikeAt, emptiedOf, holdsOf, newestOf}
+use Rattle.pen.specs.Pen.{emptiedOf, holdsOf, newestOf}
+use Rattle.controller.specs.Chip.{strikeAt}
+use Rattle.controller.specs.Reads.{readOf}
 use Rattle.controller.specs.declared.chip.Controller.{Controller}
 use Rattle.controller.proofs.Keeping.{clock-regs, clock-pen, strike-regs, strike-pen, reset-pen}
 use Rattle.pen.proofs.Pens.{none-holds, struck-holds, struck-newest, emptied-holds, emptied-newest}
 use Rattle.controller.proofs.Reading.{after-read}
-use Rattle.frames.specs.Calls.{afterCalls, Wait, clocks, reads, afterWait, Act, waits, strikes, afterAct, afterActs}
+use Rattle.frames.specs.Calls.{afterCalls, Wait, Act, waits, strikes, afterActs}
 use Rattle.frames.specs.Places.{Region}
+use Rattle.frames.proofs.Acting.{acts-append, strike-first, waits-keep}
 use Rattle.frames.proofs.Frames.{frames}
 use Rattle.frames.proofs.Reached.{reached-within}
 use Rattle.locator.specs.Cells.{IsCell, cellAt, fitsOf, fitOf}
@@ -30,23 +33,18 @@ use Rattle.locator.proofs.Locating.{locate-alike, locate-none, locate-newest, f
 use Rattle.demand.specs.Demand.{struckAt, answerTo, Rival, Demand3, Demand3Reached}
 
 -- clocks and reads leave what the locator goes by: the registers, and of the pen all but L
-wait-answer : (w : Wait) (c : Controller) → locateOf (afterWait w c) ≡ locateOf c
-unfolding afterWait
-wait-answer (clocks n) c =
+clock-answer : (n : ℕ) (c : Controller) → locateOf (clockOf n c) ≡ locateOf c
+clock-answer n c =
     locate-alike (clockOf n c) c (clock-regs c n) (ap holdsOf (clock-pen c n)) (ap newestOf (clock-pen c n))
-wait-answer (reads rs) c =
+
+read-answer : (rs : Bool) (c : Controller) → locateOf (readOf c rs .controller) ≡ locateOf c
+read-answer rs c =
     after-read (λ (d : Controller). locateOf d ≡ locateOf c) c refl
     (locate-alike (withPen (emptiedOf (c .pen)) c) c refl (emptied-holds (c .pen)) (emptied-newest (c .pen))) rs
 
 after-waits : (more : List Wait) (c : Controller) → locateOf (afterActs (map waits more) c) ≡ locateOf c
-unfolding afterActs afterAct
-after-waits [] c = refl
-after-waits (w ∷ more) c = after-waits more (afterWait w c) ∙ wait-answer w c
-
-acts-append : (l m : List Act) (c : Controller) → afterActs (l ++ m) c ≡ afterActs m (afterActs l c)
-unfolding afterActs
-acts-append [] m c = refl
-acts-append (a ∷ l) m c = acts-append l m (afterAct a c)
+after-waits more c =
+    waits-keep (λ (d : Controller). locateOf d ≡ locateOf c) (λ n d e. clock-answer n d ∙ e) (λ rs d e. read-answer rs d ∙ e) more c refl
 
 -- a list of acts has no strike, or a last one
 split-last : (l : List Act)
@@ -81,10 +79,9 @@ module _ (c : Controller) (w : RegistersWithin (c .regs)) where
 
     -- the answer for a last strike, by its place
     struck : answerTo c before more ≡ strikeFoundOf r (strikeAt r s)
-    unfolding afterActs afterAct
     struck =
         let b = afterActs before (resetOf c) in
-        ap locateOf (acts-append before (strikes ∷ map waits more) (resetOf c))
+        ap locateOf (acts-append before (strikes ∷ map waits more) (resetOf c) ∙ strike-first (map waits more) b)
         ∙ after-waits more (strikeOf b)
         ∙ strike-answer b
         ∙ ap (λ (q : Registers). strikeFoundOf q (strikeAt q (b .scan))) (frames c w .registers before)

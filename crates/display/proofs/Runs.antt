@@ -28,9 +28,9 @@ module _ (m : Mode) (d : Display) where
       ∙ iterate-run (fetchOf m) (λ (j : ℕ). withB (d .b + j) d) k (λ j q. one-more j (omega arith))
 
 -- a turn of the loop: a run, and a fetch
-pub fetches-on : (m : Mode) (d : Display) (i left k : ℕ) (e f g : Display) → e ≡ fetchesOf m i d → Run (e .b) left k
+pub fetches-on : (m : Mode) (d : Display) (i remaining k : ℕ) (e f g : Display) → e ≡ fetchesOf m i d → Run (e .b) remaining k
     → f ≡ withB (e .b + k) e → g ≡ fetchOf m f → g ≡ fetchesOf m (i + (k + 1)) d
 unfolding iterate
-fetches-on m d i left k e f g p q h z =
+fetches-on m d i remaining k e f g p q h z =
     let n : i + (k + 1) ≡ suc (k + i) = omega arith in
     rw (n, iterate-add, ← p) (z ∙ ap (fetchOf m) (h ∙ sym (fetches-at-once m e k (q .low))))

@@ -101,13 +101,13 @@ impl Display {
     }
 }
 
-// How many of the fetches that are left are a run from address b on.
-fn run_length(b: u16, left: u16) -> u16
-    ensures { λ k. ⌜ Run b left k ⌝ }
+// How many of the fetches that remain are a run from address b on.
+fn run_length(b: u16, remaining: u16) -> u16
+    ensures { λ k. ⌜ Run b remaining k ⌝ }
 {
     let k = 15 - b % 16;
-    if k < left {
+    if k < remaining {
         return k;
     }
-    left
+    remaining
 }

@@ -1,4 +1,5 @@
 pub mod Reached
+pub mod Acting
 pub mod Placing
 pub mod Times
 pub mod Places

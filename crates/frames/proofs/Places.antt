@@ -12,7 +12,7 @@ use Rattle.raster.specs.Registers.{reg, startOf}
 use Rattle.raster.specs.Scan.{topOf, nextOf}
 use Rattle.raster.specs.declared.registers.Registers.{Registers}
 use Rattle.raster.specs.declared.scan.Scan.{Scan}
-use Rattle.frames.specs.Places.{rowLines, frameTimes, Region, Placed, placeOf, scanAt}
+use Rattle.frames.specs.Places.{rowLines, frameTimes, Region, Placed, scanOn, scanAt}
 use Rattle.frames.proofs.Placing.{Narrow, placed-top, placed-after}
 use Rattle.frames.proofs.Times.{lineNo, timeNo, time-after}
 
@@ -22,8 +22,8 @@ at r line row base column field adjusting =
     record { column = column; line = line; row = row; base = base; start = startOf r; field = field; adjusting = adjusting }
 
 place-is : (r : Registers) (line row base column field : ℕ) (b : Bool) → Region r line row base b
-    → at r line row base column field b ≡ placeOf r (lineNo r line row b) column field
-unfolding placeOf lineNo if_then_else_
+    → at r line row base column field b ≡ scanOn r (lineNo r line row b) column field
+unfolding scanOn lineNo if_then_else_
 place-is r line row base column field false q =
     let n = row * (reg r 9 + 1) + line in
     let less : line < reg r 9 + 1 = omega arith in
@@ -33,7 +33,7 @@ place-is r line row base column field true q =
     let behind : rowLines r + line - rowLines r ≡ line = omega arith in
     rw (le-ltb (rowLines r + line) (rowLines r) (omega arith), behind, q .1, q .2)
 
-scan-is : (r : Registers) (s : Scan) → Placed r s → s ≡ placeOf r (lineNo r (s .line) (s .row) (s .adjusting)) (s .column) (s .field)
+scan-is : (r : Registers) (s : Scan) → Placed r s → s ≡ scanOn r (lineNo r (s .line) (s .row) (s .adjusting)) (s .column) (s .field)
 scan-is r s p =
     ap (λ (start : ℕ). record { column = s .column; line = s .line; row = s .row; base = s .base; start = start; field = s .field; adjusting = s .adjusting }) (p .start)
     ∙ place-is r (s .line) (s .row) (s .base) (s .column) (s .field) (s .adjusting) (p .region)
@@ -49,6 +49,6 @@ module _ (r : Registers) (w : Narrow r) (fields : (t : ℕ) → iterate (nextOf 
       let line : n ≡ t % frameTimes r / (reg r 0 + 1) = sym (digits-div n (omega (arith, p .column))) ∙ ap (λ (u : ℕ). u / (reg r 0 + 1)) time in
       let column : s .column ≡ t % frameTimes r % (reg r 0 + 1) = sym (digits-mod n (omega (arith, p .column))) ∙ ap (λ (u : ℕ). u % (reg r 0 + 1)) time in
       scan-is r s p
-      ∙ ap (λ (k : ℕ). placeOf r k (s .column) (s .field)) line
-      ∙ ap (λ (k : ℕ). placeOf r (t % frameTimes r / (reg r 0 + 1)) k (s .field)) column
-      ∙ ap (placeOf r (t % frameTimes r / (reg r 0 + 1)) (t % frameTimes r % (reg r 0 + 1))) (fields t)
+      ∙ ap (λ (k : ℕ). scanOn r k (s .column) (s .field)) line
+      ∙ ap (λ (k : ℕ). scanOn r (t % frameTimes r / (reg r 0 + 1)) k (s .field)) column
+      ∙ ap (scanOn r (t % frameTimes r / (reg r 0 + 1)) (t % frameTimes r % (reg r 0 + 1))) (fields t)

@@ -1,15 +1,19 @@
 -- The scan stays in its frame while no register is written. Assumes nothing.
-use Prim.Native.Nat.{ℕ, zero, suc, _+_, _*_, _%_, _<_}
+use Prim.Native.Nat.{ℕ, suc, _+_, _*_, _%_, _<_}
 use mathlib.Core.Path.{_≡_, refl, ap, _∙_}
 use mathlib.Core.Bool.{Bool, true, false}
 use native.Mathlib.Nat.{suc-mul}
 use native.Mathlib.Omega.{arith}
 use Rattle.basics.specs.Iterate.{iterate}
-use Rattle.raster.specs.Registers.{reg}
+use Rattle.basics.specs.Width.{countedOf}
+use Rattle.basics.specs.declared.width.Width.the-variants.{Fourteen}
+use Rattle.basics.proofs.Iterating.{iterate-keeps}
+use Rattle.raster.specs.Registers.{reg, rowBaseOf}
 use Rattle.raster.specs.Scan.{Move, topOf, nextOf}
 use Rattle.raster.specs.Widths.{RegistersWithin}
 use Rattle.raster.specs.declared.registers.Registers.{Registers}
 use Rattle.raster.specs.declared.scan.Scan.{Scan}
+use Rattle.raster.proofs.Bases.{row-base-next}
 use Rattle.raster.proofs.LineEnds.{line-down, row-down, to-adjust, to-frame, adjust-down, adjust-frame, Step, in-line, at-end, step}
 use Rattle.frames.specs.Places.{Region, Placed}
 
@@ -45,6 +49,10 @@ module _ (r : Registers) (w : Narrow r) where
     pub facts : (b : Bool) → s .adjusting ≡ b → Region r (s .line) (s .row) (s .base) b
     facts b a = rw a at (p .region)
 
+    -- the base of the row below
+    next-base : (row : ℕ) → s .base ≡ rowBaseOf r (s .row) → suc (s .row) ≡ row → countedOf Fourteen (s .base) (reg r 1) ≡ rowBaseOf r row
+    next-base row b e = ap (λ (x : ℕ). countedOf Fourteen x (reg r 1)) b ∙ row-base-next r (s .row) ∙ ap (rowBaseOf r) e
+
     pub placed-step : {m : Move} {z : Scan} → Step r s m z → Placed r z
     placed-step (in-line h) = record { column = omega arith; start = p .start; region = p .region }
     placed-step (at-end h (line-down a l)) =
@@ -52,13 +60,13 @@ module _ (r : Registers) (w : Narrow r) where
         record { column = omega arith; start = p .start; region = rw a (omega arith, q .1, q .2) }
     placed-step (at-end h (row-down a l k)) =
         let q = facts false a in
-        record { column = omega arith; start = p .start; region = (omega arith, omega arith, omega (arith, times-suc {a = s .row} {b = (s .row + 1) % 128} (reg r 1) (omega arith))) }
+        record { column = omega arith; start = p .start; region = (omega arith, omega arith, next-base ((s .row + 1) % 128) (q .2) (omega arith)) }
     placed-step (at-end h (to-adjust a l k z)) =
         let q = facts false a in
         record {
           column = omega arith;
           start = p .start;
-          region = (omega arith, ap (λ (row : ℕ). (row + 1) % 128) k, omega (arith, times-suc {a = s .row} {b = reg r 4 + 1} (reg r 1) (omega arith)));
+          region = (omega arith, ap (λ (row : ℕ). (row + 1) % 128) k, next-base (reg r 4 + 1) (q .2) (omega arith));
         }
     placed-step (at-end h (to-frame a l k z)) = placed-top _
     placed-step (at-end h (adjust-down a l)) =
@@ -67,6 +75,4 @@ module _ (r : Registers) (w : Narrow r) where
     placed-step (at-end h (adjust-frame a l)) = placed-top _
 
   pub placed-after : (s : Scan) → Placed r s → (n : ℕ) → Placed r (iterate (nextOf r) n s)
-  unfolding iterate
-  placed-after s p zero = p
-  placed-after s p (suc n) = placed-step (iterate (nextOf r) n s) (placed-after s p n) (step r (iterate (nextOf r) n s))
+  placed-after s p n = iterate-keeps (nextOf r) (Placed r) (λ z q. placed-step z q (step r z)) n s p

@@ -30,8 +30,8 @@ pub record Placed (r : Registers) (s : Scan) : Type 0 where
   pub region : Region r (s .line) (s .row) (s .base) (s .adjusting)
 
 -- the place at a column of a line, the frame's lines being counted from 0: R9+1 lines to a row, and then the adjust lines
-unfoldable pub placeOf : Registers → (line column field : ℕ) → Scan
-placeOf r line column field =
+unfoldable pub scanOn : Registers → (line column field : ℕ) → Scan
+scanOn r line column field =
     if ltb line (rowLines r) then record {
       column = column;
       line = line % (reg r 9 + 1);
@@ -53,4 +53,4 @@ placeOf r line column field =
 
 -- where the scan is t character times after a reset: R0+1 of them to a line, and the frames that have passed counted by the field
 unfoldable pub scanAt : Registers → ℕ → Scan
-scanAt r t = placeOf r (t % frameTimes r / (reg r 0 + 1)) (t % frameTimes r % (reg r 0 + 1)) (t / frameTimes r % 32)
+scanAt r t = scanOn r (t % frameTimes r / (reg r 0 + 1)) (t % frameTimes r % (reg r 0 + 1)) (t / frameTimes r % 32)

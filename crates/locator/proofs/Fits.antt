@@ -17,7 +17,7 @@ use Rattle.basics.specs.Bits.{wordOf, highOf, lowOf}
 use Rattle.raster.specs.Registers.{startOf, rowBaseOf, byRowsOf}
 use Rattle.raster.specs.declared.registers.Registers.{Registers}
 use Rattle.facts.proofs.Addresses.{latch-by-base, latch-by-rows}
-use Rattle.locator.specs.Cells.{cellAt, rowCells, cellsFrom, cellPlaceOf, cellLatchOf, fitsOf, keep, theFit}
+use Rattle.locator.specs.Cells.{cellAt, rowCells, cellsFrom, cellScanOf, cellLatchOf, fitsOf, keep, theFit}
 use Rattle.locator.specs.private.Search.{joinedOf, partFitOf, rowFitOf, fromBaseOf, fromLowOf}
 use Rattle.locator.specs.declared.cells.Cell.{Cell}
 use Rattle.locator.specs.declared.fit.Fit.the-variants.{Free}
@@ -122,8 +122,8 @@ module _ (r : Registers) (row x latch : ℕ) (h : x < 256) (fits : fitsOf r latc
 
   pub by-base : byRowsOf r ≡ false → x ≡ fromBaseOf (rowBaseOf r row) latch
   unfolding cellLatchOf
-  by-base b = counted-on (rowBaseOf r row) x latch h (sym (latch-by-base r (cellPlaceOf r (cellAt row x) 0) b) ∙ leaves)
+  by-base b = counted-on (rowBaseOf r row) x latch h (sym (latch-by-base r (cellScanOf r (cellAt row x) 0) b) ∙ leaves)
 
   pub by-low : byRowsOf r ≡ true → x ≡ fromLowOf (startOf r) latch
   unfolding cellLatchOf
-  by-low b = low-byte ((highOf (startOf r) + row) % 64) (startOf r) x latch h (sym (latch-by-rows r (cellPlaceOf r (cellAt row x) 0) b) ∙ leaves)
+  by-low b = low-byte ((highOf (startOf r) + row) % 64) (startOf r) x latch h (sym (latch-by-rows r (cellScanOf r (cellAt row x) 0) b) ∙ leaves)

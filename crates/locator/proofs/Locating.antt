@@ -14,7 +14,7 @@ use Rattle.facts.proofs.Addresses.{latch-alike, in-picture}
 use Rattle.pen.specs.Pen.{holdsOf, newestOf}
 use Rattle.controller.specs.declared.chip.Controller.{Controller}
 use Rattle.pen.specs.declared.pen.Strike.{Strike}
-use Rattle.locator.specs.Cells.{IsCell, cellAt, cellPlaceOf, cellLatchOf, fitsOf, fitOf}
+use Rattle.locator.specs.Cells.{IsCell, cellAt, cellScanOf, cellLatchOf, fitsOf, fitOf}
 use Rattle.locator.specs.Locate.{namedOf, strikeFoundOf, locateOf}
 use Rattle.locator.specs.declared.answer.Located.the-variants.{Unstruck, Outside}
 use Rattle.locator.specs.declared.cells.Cell.{Cell}
@@ -48,7 +48,7 @@ picture-cell r s e w c = let p = in-picture r s e in record { row< = p .row; row
 
 pub own-fits : (r : Registers) (s : Scan) → s .start ≡ startOf r → s .base ≡ rowBaseOf r (s .row) → fitsOf r (latchOf r s) (cellAt (s .row) (s .column)) ≡ true
 unfolding fitsOf cellLatchOf
-own-fits r s t b = eq-eqb _ _ (latch-alike r s (cellPlaceOf r (cellAt (s .row) (s .column)) 0) refl refl (sym b) (sym t))
+own-fits r s t b = eq-eqb _ _ (latch-alike r s (cellScanOf r (cellAt (s .row) (s .column)) 0) refl refl (sym b) (sym t))
 
 -- two cells are the same, or they are not
 pub same-or-other : (c d : Cell) → (c ≡ d) ⊎ (c ≡ d → ⊥)

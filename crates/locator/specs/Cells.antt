@@ -46,8 +46,8 @@ abbrev pub cellsOf : Registers → List Cell
 cellsOf r = cellsFrom r 0 (rowsOf r)
 
 -- the place of the scan in the cell, on one of its lines, by the registers as they stand and not as a frame sampled them
-abbrev pub cellPlaceOf : Registers → Cell → ℕ → Scan
-cellPlaceOf r c line = record {
+abbrev pub cellScanOf : Registers → Cell → ℕ → Scan
+cellScanOf r c line = record {
   column = c .column;
   line = line;
   row = c .row;
@@ -59,7 +59,7 @@ cellPlaceOf r c line = record {
 
 -- the latch that a strike there leaves
 unfoldable pub cellLatchOf : Registers → Cell → ℕ → ℕ
-cellLatchOf r c line = latchOf r (cellPlaceOf r c line)
+cellLatchOf r c line = latchOf r (cellScanOf r c line)
 
 -- a cell fits a latch when a strike in it would leave that latch. All its lines latch alike, so its first one tells.
 unfoldable pub fitsOf : Registers → ℕ → Cell → Bool

@@ -2,7 +2,7 @@
 ghost use mathlib.Core.Path.{_≡_};
 ghost use Prim.Native.Nat.{_+_, _*_, _%_, min};
 ghost use Rattle.raster.specs.Registers.{rowBaseOf};
-ghost use Rattle.locator.specs.Cells.{columnsOf, rowsOf, cellPlaceOf, fitsOf};
+ghost use Rattle.locator.specs.Cells.{columnsOf, rowsOf, cellScanOf, fitsOf};
 use raster::Registers;
 use raster::Scan;
 
@@ -49,9 +49,9 @@ pub(crate) fn row_base(r: Registers, row: u8) -> u16
 }
 
 // The place of the scan in a cell, on its first line. The base is its row's.
-fn cell_place(r: Registers, base: u16, c: Cell) -> Scan
+fn cell_scan(r: Registers, base: u16, c: Cell) -> Scan
     requires { ⌜ base ≡ rowBaseOf r (c .row) ⌝ }
-    ensures { λ s. ⌜ s ≡ cellPlaceOf r c 0 ⌝ }
+    ensures { λ s. ⌜ s ≡ cellScanOf r c 0 ⌝ }
 {
     let start = r.start();
     Scan {
@@ -70,5 +70,5 @@ pub(crate) fn cell_fits(r: Registers, base: u16, latch: u16, c: Cell) -> bool
     requires { ⌜ base ≡ rowBaseOf r (c .row) ⌝ }
     ensures { λ b. ⌜ b ≡ fitsOf r latch c ⌝ }
 {
-    facts::latch(r, cell_place(r, base, c)) == latch
+    facts::latch(r, cell_scan(r, base, c)) == latch
 }

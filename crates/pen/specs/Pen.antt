@@ -1,19 +1,12 @@
 -- The light pen (document 01, "Controller registers" and "One character time"). All that is asked of a pen is asked by these
 -- definitions: no other crate names its fields.
 use mathlib.Core.Bool.{Bool, true, false}
-use Rattle.raster.specs.declared.registers.Registers.{Registers}
-use Rattle.raster.specs.declared.scan.Scan.{Scan}
-use Rattle.facts.specs.Facts.{pictureOf, latchOf}
 use Rattle.pen.specs.declared.pen.Pen.{Pen}
 use Rattle.pen.specs.declared.pen.Strike.{Strike}
 
 -- no strike yet
 unfoldable pub noPen : Pen
 noPen = record { last = record { latch = 0; inside = false }; any = false; full = false }
-
--- a strike at a character: the latch, and whether the character is in the picture (the fact, not the pin)
-abbrev pub strikeAt : Registers → Scan → Strike
-strikeAt r s = record { latch = latchOf r s; inside = pictureOf r s }
 
 -- a strike more: an earlier one is forgotten, and L is set
 unfoldable pub struckOf : Pen → Strike → Pen

@@ -1,3 +1,4 @@
+pub mod Bases
 pub mod LineEnds
 pub mod Outcomes
 pub mod Syncs

@@ -4,12 +4,11 @@ use Prim.Native.Nat.{ℕ, _<_, _≤_}
 use mathlib.Core.Path.{_≡_}
 use mathlib.Core.Bool.{true, false}
 use mathlib.Core.Logic.{_↔_, _⊎_}
-use lib.ListN.{length}
-use Rattle.record.specs.Decode.{tableOf, allowedOf, decodeOf, numberOf}
+use Rattle.record.specs.Decode.{allowedOf, decodeOf, numberOf}
 
--- the last kind of the table, which has as many lines whatever the fields are
+-- the last kind of the table
 abbrev pub lastKind : ℕ
-lastKind = length (tableOf 0 0 0)
+lastKind = 9
 
 -- the kinds that the table lacks
 abbrev pub UnknownKind : ℕ → Type 0

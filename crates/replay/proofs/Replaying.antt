@@ -13,7 +13,7 @@ use Rattle.answer.specs.declared.Answer.{Answer}
 use Rattle.bench.specs.declared.step.Bench.{Bench}
 use Rattle.bench.specs.declared.step.Stepped.{Stepped}
 use Rattle.replay.specs.Run.{stop, onto, after, runOf, writtenOf, returnedOf, endedOf}
-use Rattle.replay.specs.private.Place.{stepAt}
+use Rattle.replay.specs.private.Step.{stepAt}
 use Rattle.replay.specs.declared.run.Replayed.{Replayed}
 use Rattle.replay.proofs.Runs.{onto-none, onto-onto, run-full, run-more}
 

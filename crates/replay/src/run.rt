@@ -5,7 +5,7 @@ ghost use lib.ListN.{length};
 ghost use Rattle.basics.specs.Lay.{putAt};
 ghost use Rattle.answer.specs.Answer.{bytesOf};
 ghost use Rattle.replay.specs.Run.{endedOf, replayOf, outputOf};
-ghost use Rattle.replay.specs.private.Place.{stepAt};
+ghost use Rattle.replay.specs.private.Step.{stepAt};
 use answer::Answer;
 use basics::put;
 use bench::Bench;

@@ -4,15 +4,15 @@ use Rattle.locator.specs.Cells.{cellLatchOf, fitsOf}
 use Rattle.locator.proofs.cells.cell_fits.Statement.{statement}
 use Rattle.locator.proofs.cells.cell_fits.Tie as tie
 
-cell-place-requires : tie.Need-cell-place-requires
-cell-place-requires c κs = search needs
+cell-scan-requires : tie.Need-cell-scan-requires
+cell-scan-requires c κs = search needs
 
 latch-requires : tie.Need-latch-requires
 latch-requires c κs = search needs
 
 returns : tie.Need-returns
 unfolding fitsOf cellLatchOf
-returns c = rw (c .latch .ensures, c .before .cell-place .ensures)
+returns c = rw (c .latch .ensures, c .before .cell-scan .ensures)
 
 pub cell-fits-spec : {M : Type 1} → statement M
-cell-fits-spec = tie.close (tie.spec cell-place-requires latch-requires returns)
+cell-fits-spec = tie.close (tie.spec cell-scan-requires latch-requires returns)
