@@ -36,6 +36,7 @@ struct reading controller_read(struct controller c, _Bool rs);
 struct outputs controller_outputs(struct controller c);
 struct controller controller_clock(struct controller c, u16 n);
 struct controller controller_strike(struct controller c);
+struct strike controller_newest(struct controller c);
 struct found controller_locate(struct controller c);
 struct display display_fetches(u16 bits, struct display from, u16 n);
 

@@ -6,17 +6,16 @@ them, and not by a tower of successors.
 import re
 
 MOST_BACK = 3
-BACK = re.compile(r"(?:\.before\s+){%d,}" % (MOST_BACK + 1))
+BACK = re.compile(r"(?:\.before\b\s*){%d,}" % (MOST_BACK + 1))
 TOWER = re.compile(r"\bsuc \(suc \(suc\b")
 
 
 def wrong_lines(text):
     """The lines of a proof, with what is wrong with each."""
-    for number, line in enumerate(text.split("\n"), 1):
-        if BACK.search(line + " "):
-            yield number, f"a path of more than {MOST_BACK} steps back; give a place on the way a name"
-        if TOWER.search(line):
-            yield number, "a tower of successors"
+    found = [(match.start(), f"a path of more than {MOST_BACK} steps back; give a place on the way a name") for match in BACK.finditer(text)]
+    found += [(match.start(), "a tower of successors") for match in TOWER.finditer(text)]
+    for at, why in sorted(found):
+        yield text.count("\n", 0, at) + 1, why
 
 
 def check(top):

@@ -87,16 +87,18 @@ static void show_character(void)
 static void strike(void)
 {
     chip = controller_strike(chip);
-    body[0] = chip.pen.last.latch / 256;
-    body[1] = chip.pen.last.latch % 256;
-    body[2] = chip.pen.last.inside;
+    struct strike newest = controller_newest(chip);
+    body[0] = newest.latch / 256;
+    body[1] = newest.latch % 256;
+    body[2] = newest.inside;
 }
 
-/* The pen's own fields decide the first two refusals. */
+/* A strike outside the picture is refused, whatever the cells say. */
 static void locate(void)
 {
     struct found found = controller_locate(chip);
-    refusal = !chip.pen.any ? NO_STRIKE : !chip.pen.last.inside ? OUTSIDE : found.refusal;
+    _Bool outside = found.refusal != NO_STRIKE && !controller_newest(chip).inside;
+    refusal = outside ? OUTSIDE : found.refusal;
     body[0] = found.row;
     body[1] = found.column;
 }

@@ -19,7 +19,7 @@ static const char *const names[SIDES] = {"proved", "Rust", "C"};
 enum { HAS_RUST = 0 };
 void rust_clock(struct place *at, const struct registers *regs, unsigned n) { c_clock(at, regs, n); }
 void rust_locate(struct found *out, const struct registers *regs, unsigned latch) { c_locate(out, regs, latch); }
-void rust_fetches(struct counted *at, const struct mode *mode, unsigned n) { c_fetches(at, mode, n); }
+void rust_fetches(struct display *at, const struct mode *mode, unsigned n) { c_fetches(at, mode, n); }
 #else
 enum { HAS_RUST = 1 };
 #endif
@@ -29,7 +29,7 @@ static struct controller chip;
 static struct registers regs;
 static struct place places[SIDES];
 static struct found cells[SIDES];
-static struct counted counters[SIDES];
+static struct display counters[SIDES];
 static u16 control_bits;
 static struct mode mode;
 
@@ -44,8 +44,8 @@ static void clock_proved(void) { proved_clock(CALL); }
 static void clock_rust(void) { rust_clock(&places[RUST], &regs, CALL); }
 static void clock_c(void) { c_clock(&places[C], &regs, CALL); }
 static void locate_proved(void) { cells[PROVED] = controller_locate(chip); }
-static void locate_rust(void) { rust_locate(&cells[RUST], &regs, chip.pen.latch); }
-static void locate_c(void) { c_locate(&cells[C], &regs, chip.pen.latch); }
+static void locate_rust(void) { rust_locate(&cells[RUST], &regs, controller_newest(chip).latch); }
+static void locate_c(void) { c_locate(&cells[C], &regs, controller_newest(chip).latch); }
 static void fetch_proved(void) { counters[PROVED] = display_fetches(control_bits, counters[PROVED], CALL); }
 static void fetch_rust(void) { rust_fetches(&counters[RUST], &mode, CALL); }
 static void fetch_c(void) { c_fetches(&counters[C], &mode, CALL); }
@@ -113,7 +113,7 @@ static int same_cell(struct found a, struct found b)
     return a.refusal == b.refusal && a.row == b.row && a.column == b.column;
 }
 
-static int same_counter(struct counted a, struct counted b)
+static int same_counter(struct display a, struct display b)
 {
     return a.b == b.b && a.x == b.x && a.y == b.y;
 }
@@ -170,7 +170,7 @@ static int compare_fetches(const char *row, u16 bits, struct mode limits)
     control_bits = bits;
     mode = limits;
     for (int side = 0; side < SIDES; side++)
-        counters[side] = (struct counted){0, 0, 0};
+        counters[side] = (struct display){0, 0, 0};
     for (int turn = 0; turn < TURNS * STRIDES; turn++) {
         u16 n = strides[turn % STRIDES];
         gone += n;

@@ -100,7 +100,7 @@ void c_locate(struct found *out, const struct registers *regs, unsigned latch)
     *out = fits > 1 ? (struct found){8, 0, 0} : found;
 }
 
-static void fetch(struct counted *d, const struct mode *m)
+static void fetch(struct display *d, const struct mode *m)
 {
     if (d->b % 16 != 15) {
         d->b++;
@@ -120,9 +120,9 @@ static void fetch(struct counted *d, const struct mode *m)
 }
 
 /* n display fetches. */
-void c_fetches(struct counted *at, const struct mode *mode, unsigned n)
+void c_fetches(struct display *at, const struct mode *mode, unsigned n)
 {
-    struct counted d = *at;
+    struct display d = *at;
     const struct mode m = *mode;
     for (unsigned i = 0; i < n; i++)
         fetch(&d, &m);

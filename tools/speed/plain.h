@@ -13,7 +13,7 @@ struct mode { u8 x, y; };
 #define DECLARE(language) \
     void language##_clock(struct place *at, const struct registers *regs, unsigned n); \
     void language##_locate(struct found *out, const struct registers *regs, unsigned latch); \
-    void language##_fetches(struct counted *at, const struct mode *mode, unsigned n);
+    void language##_fetches(struct display *at, const struct mode *mode, unsigned n);
 
 DECLARE(rust)
 DECLARE(c)

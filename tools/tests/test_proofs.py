@@ -21,6 +21,9 @@ class Paths(unittest.TestCase):
     def test_four_steps_at_the_end_of_a_line_are_refused(self):
         self.assertEqual(lines("    let turn = c .before .before .before .before\n    in turn .put"), [1])
 
+    def test_four_steps_to_a_bracket_or_over_lines_are_refused(self):
+        self.assertEqual(lines("(c .before .before .before .before)\n(c .before .before .before\n  .before .put)"), [1, 2])
+
     def test_a_waypoint_breaks_a_path(self):
         self.assertEqual(lines("let turn = c .before .before .before in turn .before .before .before .args"), [])
 

@@ -1,5 +1,4 @@
 """What tools/rests-on finds below a promise, a contract and a definition, and what the check of specs/private/ refuses, on a small repository."""
-from unittest import mock
 
 from checks import antt, places, restated
 from checks.definitions import CodeType, stands_in, words_in
@@ -181,8 +180,3 @@ class Places(GroundsTest):
         self.edit(HIGH, "pub same : p .unread ≡ left", "pub same : Small p left")
         self.edit(HIGH, "{lowOf as low}", "{lowOf as low}\nuse Rattle.beta.specs.private.Small.{Small}")
         self.assertWrong("crates/beta/specs/private/Small.antt:4: Small stands in specs/private/, and a promise or a public contract rests on it")
-
-    def test_a_crate_that_is_not_sorted(self):
-        self.files[HIGH] += "\n-- more\nabbrev pub more : ℕ\nmore = 0\n"
-        with mock.patch.object(places, "UNSORTED", {"beta"}):
-            self.assertRight()

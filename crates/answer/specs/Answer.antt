@@ -4,7 +4,8 @@ use mathlib.Core.List.{List, [], _∷_}
 use lib.ListN.{getD}
 use Rattle.answer.specs.declared.Answer.{Answer}
 
--- an answer by its kind, its refusal number and the body bytes that are named, the first of the six first; one that is not named is zero
+-- an answer by its kind, its refusal number and the body bytes that are named, the first of the six first; one that is not named is zero,
+-- and one past the sixth would be left out
 abbrev pub answeredOf : ℕ → ℕ → List ℕ → Answer
 answeredOf kind refusal body =
     record {

@@ -1,7 +1,7 @@
 -- The one ruleset for case analysis. A definition chooses by tests; the code has made the same tests on its way to a return. Under
 -- `unfolding` of that definition, `search cases depth N` goes down its choices by the facts that the code's own tests left, wherever
 -- those facts stand. N bounds how deep the laws may nest: one for each test on the way, and two or three for the test that decides; 9 is
--- enough for every definition here, and a smaller tree costs no more by it. Assumes nothing.
+-- enough for every definition here but the table of kinds, which has a test for each kind, and a smaller tree costs no more by it. Assumes nothing.
 use Prim.Native.Nat.{ℕ, _<_, _≤_}
 use mathlib.Core.Bool.{Bool, true, false, not, _&&_, _||_}
 use mathlib.Core.Path.{_≡_, refl, sym, _∙_}

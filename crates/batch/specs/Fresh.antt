@@ -29,7 +29,8 @@ freshBench = record { controller = controller.freshOf; multiplexer = multiplexer
 unfoldable pub freshRunOf : List ℕ → ℕ → Run
 freshRunOf batch room = runOf batch room freshBench
 
--- How far the numbers go that such a replay returns. All of it follows from the run; a caller needs it for the room of its text.
+-- How far the numbers go that such a replay returns: the output keeps its length, the ending number is a digit, no more bytes are taken than
+-- there are, and every answer has its eight bytes of room. All of it follows from the run; a caller needs it for the room of its text.
 pub record Bounded (batch out out′ : List ℕ) (r : Replayed) : Type 0 where
   pub same : length out′ ≡ length out
   pub ending : r .ending ≤ 4

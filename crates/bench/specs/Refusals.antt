@@ -37,5 +37,5 @@ pub record Refusals (b : Bench) (kind hi lo value : ℕ) : Type 0 where
   pub first : stepOf b kind hi lo value .answer .kind ≡ kind
   -- 1 and 2 for a record that is no event, the two cases being those that `Refusals` of the crate `record` tells apart
   pub decoded : (r : Refusal) → decodeOf kind hi lo value ≡ Refused r → toldNumber b kind hi lo value ≡ numberOf (Refused r)
-  -- and for one that is, the refusal of its event, or 0
+  -- and for one that is, the number of its event on this bench; 0 is done
   pub known : (e : Event) → decodeOf kind hi lo value ≡ Known e → toldNumber b kind hi lo value ≡ eventRefusalOf b e

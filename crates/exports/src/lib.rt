@@ -5,6 +5,7 @@ ghost use Rattle.controller.specs.Chip.{freshOf, resetOf, writeOf, clockOf, str
 ghost use Rattle.controller.specs.Pins.{outputsOf};
 ghost use Rattle.controller.specs.Reads.{readOf};
 ghost use Rattle.locator.specs.Locate.{locateOf};
+ghost use Rattle.pen.specs.Pen.{newestOf};
 ghost use Rattle.exports.specs.Plain.{foundOf, fetchedOf};
 use control::Control;
 use controller::Controller;
@@ -12,6 +13,7 @@ use controller::Outputs;
 use controller::Reading;
 use display::Display;
 use multiplexer::Multiplexer;
+use pen::Strike;
 
 // A locator's answer: its number in the table of refusals, and the cell, zeros where it names none.
 #[repr(C)]
@@ -74,6 +76,14 @@ pub extern "C" fn controller_strike(c: Controller) -> Controller
     ensures { λ r. ⌜ r ≡ strikeOf c ⌝ }
 {
     c.strike()
+}
+
+// The newest strike; all zero where there was none.
+#[no_mangle]
+pub extern "C" fn controller_newest(c: Controller) -> Strike
+    ensures { λ r. ⌜ r ≡ newestOf (c .pen) ⌝ }
+{
+    c.pen.newest()
 }
 
 // Where the newest strike was.

@@ -45,7 +45,8 @@ cellsFrom r row (suc n) = rowCells r row ++ cellsFrom r (suc row) n
 abbrev pub cellsOf : Registers → List Cell
 cellsOf r = cellsFrom r 0 (rowsOf r)
 
--- the place of the scan in the cell, on one of its lines, by the registers as they stand and not as a frame sampled them
+-- the place of the scan in the cell, on one of its lines, by the registers as they stand and not as a frame sampled them; of the field, on
+-- which no latch depends, the first
 abbrev pub cellScanOf : Registers → Cell → ℕ → Scan
 cellScanOf r c line = record {
   column = c .column;

@@ -101,6 +101,7 @@ use Rattle.exports.proofs.controller_read.Reads as exports·controller-read
 use Rattle.exports.proofs.controller_outputs.Reads as exports·controller-outputs
 use Rattle.exports.proofs.controller_clock.Reads as exports·controller-clock
 use Rattle.exports.proofs.controller_strike.Reads as exports·controller-strike
+use Rattle.exports.proofs.controller_newest.Reads as exports·controller-newest
 use Rattle.exports.proofs.controller_locate.Reads as exports·controller-locate
 use Rattle.exports.proofs.display_fetches.Reads as exports·display-fetches
 
@@ -391,6 +392,9 @@ exports-controller-clock κs a x y s t p q = one-answer p q
 
 pub exports-controller-strike : OneAnswer exports·controller-strike.Post (λ κs r s. r)
 exports-controller-strike κs a x y s t p q = one-answer p q
+
+pub exports-controller-newest : OneAnswer exports·controller-newest.Post (λ κs r s. r)
+exports-controller-newest κs a x y s t p q = one-answer p q
 
 pub exports-controller-locate : OneAnswer exports·controller-locate.Post (λ κs r s. r)
 exports-controller-locate κs a x y s t p q = one-answer p q

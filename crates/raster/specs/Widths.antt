@@ -1,5 +1,5 @@
--- The widths of what the raster holds (document 01, "Controller registers" and "One character time"). Theorems that lean on them name them
--- as a premise; every controller that calls reach meets it.
+-- The widths of what the raster holds (document 01, "Controller registers" and "One character time"). Theorems that lean on them name
+-- them as a premise, and every controller that calls reach is within them.
 use Prim.Native.Nat.{ℕ, _^_, _<_, _≤_}
 use mathlib.Core.Path.{_≡_}
 use lib.ListN.{length, getD}

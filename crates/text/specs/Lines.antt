@@ -16,7 +16,6 @@ newline = 10 ∷ []
 unfoldable pub lineOf : List ℕ → List ℕ
 lineOf bytes = hexOf bytes ++ newline
 
-
 -- what f makes of the bytes of a line after those of another, n times
 unfoldable pub rowsOf : (List ℕ → List ℕ) → ℕ → List ℕ → List ℕ
 rowsOf f zero bytes = []

@@ -71,6 +71,7 @@ returns-9 : tie.Need-returns-9
 unfolding decodeOf lookedUp if_then_else_
 returns-9 c = rw (c .before .match .keys9) (c .checked9 .ensures)
 
+-- past the table: a test for each of its lines, and three for the last
 returns-10 : tie.Need-returns-10
 unfolding decodeOf lookedUp
 returns-10 c = search cases depth 12
