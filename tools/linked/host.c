@@ -11,7 +11,6 @@ int printf(const char *form, ...);
 
 enum { MOST = 4096, RECORD = 4, BODY = 6, ADDRESSES = 16384 };
 enum { WRITE = 1, READ, CLOCK, STRIKE, RESET, BUS, FETCH, LOCATE = 9 };
-enum { NO_STRIKE = 5, OUTSIDE = 6 };
 enum { CONTROL = 0xffc0, RATES = 0x1800, FAST = 0x1000, M0 = 0x2000, M1 = 0x4000, TY = 0x8000 };
 
 /* The limits of the two dividers, by V2 V1 V0, and the fetches within which each divider has counted. */
@@ -93,12 +92,10 @@ static void strike(void)
     body[2] = newest.inside;
 }
 
-/* A strike outside the picture is refused, whatever the cells say. */
 static void locate(void)
 {
     struct found found = controller_locate(chip);
-    _Bool outside = found.refusal != NO_STRIKE && !controller_newest(chip).inside;
-    refusal = outside ? OUTSIDE : found.refusal;
+    refusal = found.refusal;
     body[0] = found.row;
     body[1] = found.column;
 }

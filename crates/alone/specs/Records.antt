@@ -36,3 +36,13 @@ onDecoded c kind (Refused refusal) = told c (plainOf kind (numberOf (Refused ref
 -- a record: decoded before the controller sees it
 unfoldable pub aloneOf : ℕ → Controller → ℕ → ℕ → ℕ → Told
 aloneOf kind c hi lo value = onDecoded c kind (decodeOf kind hi lo value)
+
+-- a record of kind 1, of kind 3 and of kind 4
+abbrev pub writeRecordOf : Controller → ℕ → ℕ → ℕ → Told
+writeRecordOf c hi lo value = aloneOf 1 c hi lo value
+
+abbrev pub clockRecordOf : Controller → ℕ → ℕ → ℕ → Told
+clockRecordOf c hi lo value = aloneOf 3 c hi lo value
+
+abbrev pub strikeRecordOf : Controller → ℕ → ℕ → ℕ → Told
+strikeRecordOf c hi lo value = aloneOf 4 c hi lo value

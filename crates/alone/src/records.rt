@@ -1,6 +1,6 @@
 // Whole records on a controller that stands alone.
 ghost use mathlib.Core.Path.{_≡_};
-ghost use Rattle.alone.specs.Records.{idle, onEvent, aloneOf};
+ghost use Rattle.alone.specs.Records.{idle, onEvent, aloneOf, writeRecordOf, clockRecordOf, strikeRecordOf};
 use crate::events::Told;
 use crate::events::on_clocks;
 use crate::events::on_read;
@@ -55,21 +55,21 @@ fn alone(kind: u8, controller: Controller, hi: u8, lo: u8, value: u8) -> Told
 
 // A record of kind 1: a write.
 pub fn write(controller: Controller, hi: u8, lo: u8, value: u8) -> Told
-    ensures { λ r. ⌜ r ≡ aloneOf 1 controller hi lo value ⌝ }
+    ensures { λ r. ⌜ r ≡ writeRecordOf controller hi lo value ⌝ }
 {
     alone(1, controller, hi, lo, value)
 }
 
 // A record of kind 3: character clocks.
 pub fn clock(controller: Controller, hi: u8, lo: u8, value: u8) -> Told
-    ensures { λ r. ⌜ r ≡ aloneOf 3 controller hi lo value ⌝ }
+    ensures { λ r. ⌜ r ≡ clockRecordOf controller hi lo value ⌝ }
 {
     alone(3, controller, hi, lo, value)
 }
 
 // A record of kind 4: a pen strike.
 pub fn strike(controller: Controller, hi: u8, lo: u8, value: u8) -> Told
-    ensures { λ r. ⌜ r ≡ aloneOf 4 controller hi lo value ⌝ }
+    ensures { λ r. ⌜ r ≡ strikeRecordOf controller hi lo value ⌝ }
 {
     alone(4, controller, hi, lo, value)
 }

@@ -32,6 +32,7 @@ use Rattle.bench.specs.Refusals.{Refusals as BenchRefusals}
 use Rattle.bench.specs.Alone.{AsOnTheBench}
 use Rattle.bench.specs.declared.step.Bench.{Bench}
 use Rattle.bench.proofs.Refusals.{refusals as bench-refusals}
+use Rattle.alone.specs.Records.{writeRecordOf, clockRecordOf, strikeRecordOf}
 use Rattle.bench.proofs.OnTheBench.{as-on-the-bench}
 use Rattle.replay.specs.Run.{runOf, replayOf, outputOf}
 use Rattle.replay.specs.Rest.{restOf, restAt}
@@ -51,6 +52,9 @@ use Rattle.lister.proofs.list.Reads as lister·list
 use Rattle.rooms_text.proofs.room.Reads as rooms-text·room
 use Rattle.text.proofs.said.Reads as text·said
 use Rattle.bench.proofs.step.Bench.step.Reads as bench·step
+use Rattle.alone.proofs.write.Reads as alone·write
+use Rattle.alone.proofs.clock.Reads as alone·clock
+use Rattle.alone.proofs.strike.Reads as alone·strike
 use Rattle.controller.proofs.chip.Controller.clock.Reads as controller·clock
 use Rattle.controller.proofs.chip.Controller.fresh.Reads as controller·fresh
 use Rattle.controller.proofs.chip.Controller.outputs.Reads as controller·outputs
@@ -106,6 +110,15 @@ text-said κs a r s p = p .0
 
 pub record-stepped : States bench·step.Post (λ κs a r s. r ≡ stepOf (a .0) (a .1 .0) (a .1 .1 .0) (a .1 .1 .1 .0) (a .1 .1 .1 .1 .0))
 record-stepped κs a r s p = p
+
+pub written-alone : States alone·write.Post (λ κs a r s. r ≡ writeRecordOf (a .0) (a .1 .0) (a .1 .1 .0) (a .1 .1 .1 .0))
+written-alone κs a r s p = p
+
+pub clocked-alone : States alone·clock.Post (λ κs a r s. r ≡ clockRecordOf (a .0) (a .1 .0) (a .1 .1 .0) (a .1 .1 .1 .0))
+clocked-alone κs a r s p = p
+
+pub struck-alone : States alone·strike.Post (λ κs a r s. r ≡ strikeRecordOf (a .0) (a .1 .0) (a .1 .1 .0) (a .1 .1 .1 .0))
+struck-alone κs a r s p = p
 
 pub alone-as-on-the-bench : (b : Bench) (hi lo value : ℕ) → AsOnTheBench b hi lo value
 alone-as-on-the-bench = as-on-the-bench

@@ -8,7 +8,7 @@ status-requires c κs = search needs
 
 returns : tie.Need-returns
 unfolding statusReadOf
-returns c = cc
+returns c = simp (c .status .ensures)
 
 pub status-read-spec : {M : Type 1} → statement M
 status-read-spec = tie.close (tie.spec status-requires returns)
