@@ -12,6 +12,7 @@ use Rattle.controller.specs.Pins.{outputsOf}
 use Rattle.controller.specs.Reads.{readOf}
 use Rattle.frames.specs.Calls.{Call, afterCalls}
 use Rattle.controller.specs.Widths.{Within}
+use Rattle.controller.specs.Writes.{keptOf}
 use Rattle.frames.proofs.Reached.{reached-within}
 use Rattle.locator.specs.Locate.{locateOf}
 use Rattle.demand.specs.Demand.{Demand3Reached}
@@ -62,6 +63,7 @@ use Rattle.controller.proofs.chip.Controller.read.Reads as controller·read
 use Rattle.controller.proofs.chip.Controller.reset.Reads as controller·reset
 use Rattle.controller.proofs.chip.Controller.strike.Reads as controller·strike
 use Rattle.controller.proofs.chip.Controller.write.Reads as controller·write
+use Rattle.controller.proofs.kept.Reads as controller·kept
 use Rattle.multiplexer.proofs.chip.Multiplexer.bus.Reads as multiplexer·bus
 use Rattle.multiplexer.proofs.chip.Multiplexer.fetches.Reads as multiplexer·fetches
 use Rattle.multiplexer.proofs.chip.Multiplexer.levels.Reads as multiplexer·levels
@@ -131,6 +133,9 @@ outputs-shown κs a r s p = p
 
 pub register-written : States controller·write.Post (λ κs a r s. r ≡ writeOf (a .0) (a .1 .0) (a .1 .1 .0))
 register-written κs a r s p = p
+
+pub register-kept : States controller·kept.Post (λ κs a r s. r ≡ keptOf (a .0) (a .1 .0))
+register-kept κs a r s p = p
 
 pub register-read : States controller·read.Post (λ κs a r s. r ≡ readOf (a .0) (a .1 .0))
 register-read κs a r s p = p

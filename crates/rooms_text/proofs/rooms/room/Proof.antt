@@ -64,12 +64,12 @@ array-borrow-prefix-out : tie.Need-array-borrow-prefix-out
 array-borrow-prefix-out c = search needs
 
 slice-aggregate-shown : tie.Need-slice-aggregate-shown
-slice-aggregate-shown c = let r = c .before .before .before .room-of in sym (length-front (r .result) mostOutput 165 (r .ensures .1))
+slice-aggregate-shown c = let r = c .before .before .before .room-of in sym (length-front (r .result) mostOutput 0xA5 (r .ensures .1))
 
 shown-requires : tie.Need-shown-requires
 shown-requires c κs =
     let r = c .before .before .before .room-of in
-    (simp (length-take, length-drop) (omega arith), rw (length-front (r .result) mostOutput 165 (r .ensures .1)) (r .ensures .1))
+    (simp (length-take, length-drop) (omega arith), rw (length-front (r .result) mostOutput 0xA5 (r .ensures .1)) (r .ensures .1))
 
 returns-3 : tie.Need-returns-3
 unfolding roomTextOf if_then_else_
@@ -85,7 +85,7 @@ returns-3 c =
     whole-text
     (omega (arith, room-text-has-room input))
     (rw (le-ltb _ headBytes (tests .before .if1 .left), le-ltb (headBytes + mostBytes) _ (tests .if2 .left))
-    (rw (rest, front (r .result) mostOutput 165 (r .ensures .1), r .ensures .0) at (shown .shown .ensures)))
+    (rw (rest, front (r .result) mostOutput 0xA5 (r .ensures .1), r .ensures .0) at (shown .shown .ensures)))
 
 pub room-spec : {M : Type 1} → statement M
 room-spec =
