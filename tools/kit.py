@@ -58,9 +58,9 @@ def compile_c(compiler, source, out, more=()):
     quietly(compiler + ["-std=c99", "-Wall", "-Wextra", "-I", INCLUDE, *more, "-c", source, "-o", out])
 
 
-def link(kit, program, objects):
+def link(kit, program, objects, archive=ARCHIVE):
     """The objects and the proved archive as one program for x86-64."""
-    quietly([kit.linker, "--target", TARGET, "--toolchain", kit.toolchain, "-o", program, *objects, ARCHIVE])
+    quietly([kit.linker, "--target", TARGET, "--toolchain", kit.toolchain, "-o", program, *objects, archive])
 
 
 def running(kit, program):

@@ -143,6 +143,8 @@ def edited(folder, text):
         files[pair.file] = after
     if not files:
         raise BadEdit("it has no `old:` and `new:` pair")
+    if any(name.startswith("specs/") for name in files) and len(list(pairs_of(text))) > 1:
+        raise BadEdit("it changes a rule and something beside it: a changed rule is refused in many places, so one could hide another")
     for name, after in files.items():
         if words_of(name, after) == words_of(name, (folder / name).read_text()):
             raise BadEdit(f"all in all it changes nothing of {name}")
@@ -175,27 +177,44 @@ def check_static(top):
     return wrong, len(found)
 
 
+@dataclasses.dataclass
+class Refusal:
+    """What a log says against one thing: the function or the law, and the words."""
+
+    of: str
+    said: str
+
+
+def refused_by(file, line):
+    """What an error in a file speaks of: a function has one proof file, and a file of laws has many laws."""
+    return file if file.endswith("/Proof.antt") else f"{file}:{line}"
+
+
 def refusals_of(log):
     """What a log says against the crate: each error with the lines below it, each note that something is not proved, each function."""
-    said, open_error = [], False
+    said, open_error, notes = [], False, []
     for line in log.split("\n"):
-        error = re.match(r"(\S+):\d+:\d+: error: (.*)", line) or re.match(r"(error):? ?(.*)", line)
+        error = re.match(r"(\S+):(\d+):\d+: error: (.*)", line) or re.match(r"(error)():? ?(.*)", line)
         note = re.match(r"note: \S+:\d+:\d+: (it is not proved .*)", line)
-        item = re.match(r"(?:fn|struct|enum) [^ ]+: (.*)", line)
+        item = re.match(r"(?:fn|struct|enum) ([^ ]+): (.*)", line)
         if open_error and line.startswith("  "):
-            said[-1] += "\n" + line.strip()
+            said[-1].said += "\n" + line.strip()
             continue
         open_error = bool(error)
         if error:
             specs = re.search(r"/must-fail/[^/]+/[^/]+/specs/", error.group(1))
-            said.append(f"error{' in specs' if specs else ''}: {error.group(2)}")
+            said.append(Refusal(refused_by(*error.group(1, 2)), f"error{' in specs' if specs else ''}: {error.group(3)}"))
         elif note:
-            said.append("note: " + note.group(1))
+            notes.append(Refusal("", "note: " + note.group(1)))
+            said.append(notes[-1])
         elif item:
-            if item.group(1) != "proved":
-                said.append("fn: " + item.group(1))
+            for one in notes:  # a function's notes stand before it
+                one.of = item.group(1)
+            notes.clear()
+            if item.group(2) != "proved":
+                said.append(Refusal(item.group(1), "fn: " + item.group(2)))
         elif re.search(r"\berror\b", line.partition("`")[0]) and not line.startswith((" ", "note: ", "help: ")):
-            said.append("error: " + line)
+            said.append(Refusal("", "error: " + line))
     return said
 
 
@@ -243,20 +262,21 @@ def check_log(log, pairs=1):
     """The class of a log's first refusal, and what is wrong with the log. Of several replacements each has to be refused for a fact."""
     if not re.search(rf"^{CHECKED}", log, re.M):
         return "", ["its log does not say that the prover refused it"]
-    first, wrong, facts = "", [], 0
+    first, wrong, facts = "", [], set()
     for refusal in refusals_of(log):
-        kind, name = class_of(refusal)
+        kind, name = class_of(refusal.said)
         if kind == "shape":
-            wrong.append(f"refused for its shape ({name}), which shows nothing: {shown(refusal)}")
+            wrong.append(f"refused for its shape ({name}), which shows nothing: {shown(refusal.said)}")
         elif kind == "unknown":
-            wrong.append(f"refused by what is not known to be a fact: {shown(refusal)}")
+            wrong.append(f"refused by what is not known to be a fact: {shown(refusal.said)}")
         elif kind == "fact":
             first = first or name
-            facts += name != "open"  # that a function is open is said beside the fact itself
+            if name != "open":  # that a function is open is said beside the fact itself
+                facts.add(refusal.of)
     if not first and not wrong:
         wrong.append("its log names no fact that it is refused for")
-    elif facts < pairs:
-        wrong.append(f"it makes {pairs} replacements, and its log names {facts} facts: one of them may be hidden behind another")
+    elif len(facts) < pairs:
+        wrong.append(f"it makes {pairs} replacements, and its log names facts of {len(facts)}: one may be hidden behind another")
     return first, wrong
 
 

@@ -11,8 +11,8 @@ from checks import antt
 # By their paths: the first digits of the sum of all words outside comments.
 SUMS = {
     "crates/basics/specs/Lay.antt": "eb00da38c261183c",
-    "crates/bench/specs/Alone.antt": "71d01dd480e09fdd",
-    "crates/bench/specs/Refusals.antt": "bc8519126422d7eb",
+    "crates/every_record/specs/Alone.antt": "a8717d975bede313",
+    "crates/every_record/specs/Refusals.antt": "3053fc621f83204d",
     "crates/control/specs/Write.antt": "cc19ff58d2cfa836",
     "crates/controller/specs/Widths.antt": "1223d07be6f9281c",
     "crates/demand/specs/Demand.antt": "9f6bec85ca237f9a",
@@ -21,7 +21,7 @@ SUMS = {
     "crates/frames/specs/Places.antt": "a8248c68dd4e85b2",
     "crates/raster/specs/Widths.antt": "91836725749cadd3",
     "crates/record/specs/Refusals.antt": "73e0ffde3f3569b6",
-    "crates/replay/specs/Laws.antt": "66c4772b0ba9a617",
+    "crates/every_replay/specs/Runs.antt": "4b0a4dff2d7d8558",
     "crates/replay/specs/Run.antt": "af9cc5c81c5527a6",
     "crates/settled/specs/Cases.antt": "f10685c6f7dabc93",
     "crates/settled/specs/Premises.antt": "4c4ff8cdc9c103ff",

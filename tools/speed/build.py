@@ -3,7 +3,8 @@ import collections
 import re
 
 from commands import TOP, attempt
-from kit import TARGET, c_compiler, compile_c, link, need_archive, prove_archive
+from kit import ARCHIVE, TARGET, c_compiler, compile_c, link, need_archive, prove_archive
+from .pages import on_pages
 from .progress import say
 
 SOURCES = TOP / "tools" / "speed"
@@ -46,7 +47,7 @@ def rust_through_clang(kit, source, out):
         return None, f"rustc refused {source.name}: {last_error(said)}"
     text.write_text(retargeted(text.read_text()))
     clang = kit.toolchain / "bin" / "clang"
-    well, said = attempt([clang, f"--target={TARGET}", "-O3", "-fPIC", "-Wno-override-module",
+    well, said = attempt([clang, f"--target={TARGET}", "-O3", "-fPIC", "-ffunction-sections", "-Wno-override-module",
                           "-x", "ir", "-c", text, "-o", out])
     if not well:
         return None, f"the kit's clang does not take what {version_of(RUST_WORDS)} writes: {last_error(said)}"
@@ -67,6 +68,13 @@ def compile_rust(kit, out):
     return rust_through_clang(kit, source, out)
 
 
+def on_own_pages(path):
+    """A copy of an object or an archive, in the room of this tool, with each function on pages of its own."""
+    made = ROOM / f"{path.stem}-on-pages{path.suffix}"
+    made.write_bytes(on_pages(path.read_bytes()))
+    return made
+
+
 def build(kit, prove):
     """All of it."""
     if prove:
@@ -78,7 +86,8 @@ def build(kit, prove):
     harness, plain, rust, program = (ROOM / name for name in ("harness.o", "plain-c.o", "plain-rust.o", "program"))
     made, lacks = compile_rust(kit, rust)
     compiler = c_compiler(kit)
-    compile_c(compiler, SOURCES / "plain.c", plain)
+    compile_c(compiler, SOURCES / "plain.c", plain, ["-ffunction-sections"])
     compile_c(compiler, SOURCES / "harness.c", harness, [] if made else ["-DNO_RUST"])
-    link(kit, program, [harness, plain, *([rust] if made else [])])
+    sides = [on_own_pages(side) for side in [plain, *([rust] if made else []), ARCHIVE]]
+    link(kit, program, [harness, *sides[:-1]], sides[-1])
     return Built(program, made, f"{version_of(compiler)}, -O3", lacks)

@@ -82,6 +82,10 @@ class Static(EditsTest):
         self.files[EDIT] = "# nothing\nfile: src/lib.rt\n"
         self.assertWrong("it has no `old:` and `new:` pair")
 
+    def test_a_changed_rule_beside_something_else(self):
+        self.files[SPECS] += FILES[EDIT]
+        self.assertWrong("it changes a rule and something beside it")
+
     def test_an_edit_in_a_crate_that_is_not_listed(self):
         self.files["crates/beta/must-fail/wrong.edit"] = FILES[EDIT]
         self.assertWrong("an edit here is not tried")
@@ -144,7 +148,18 @@ class Logs(EditsTest):
 
     def test_one_fact_for_two_replacements(self):
         self.assertEqual(edits.check_log(FACT, 1), ("search", []))
-        self.assertIn("makes 2 replacements, and its log names 1 facts", edits.check_log(FACT, 2)[1][0])
+        self.assertIn("makes 2 replacements, and its log names facts of 1", edits.check_log(FACT, 2)[1][0])
+
+    def test_two_facts_of_one_function_for_two_replacements(self):
+        self.assertIn("makes 2 replacements, and its log names facts of 1", edits.check_log(FACT + FACT, 2)[1][0])
+        self.assertEqual(edits.check_log(FACT + FACT.replace("/one/", "/two/"), 2), ("search", []))
+
+    def test_notes_of_one_function_for_two_replacements(self):
+        note = "note: /x/src/lib.rt:2:1: it is not proved that what the function ensures holds when it returns (`returns`)\n"
+        opened = "fn alpha::{0}: no proof: expected `{0}-spec` in /x/proofs/{0}/Proof.antt; `search` does not close `returns`\n"
+        once, twice = note + note + opened.format("one"), note + opened.format("one") + note + opened.format("two")
+        self.assertIn("names facts of 1", edits.check_log(once + "logic=not-proved\n", 2)[1][0])
+        self.assertEqual(edits.check_log(twice + "logic=not-proved\n", 2), ("returns", []))
 
 
 class Classes(unittest.TestCase):

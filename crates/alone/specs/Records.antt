@@ -1,5 +1,5 @@
 -- Whole records on a controller that stands alone (document 01, kinds 1, 3 and 4 of the table of kinds). That they do the same on the
--- bench is said, and shown, in the crate `bench`.
+-- bench is said, and shown, in the crate `every_record`.
 use Prim.Native.Nat.{ℕ}
 use Rattle.basics.specs.Choice.{if_then_else_}
 use Rattle.answer.specs.Answer.{plainOf}

@@ -13,8 +13,9 @@ use Rattle.multiplexer.specs.Chip as multiplexer
 use Rattle.multiplexer.specs.declared.chip.Multiplexer.{Multiplexer}
 use Rattle.replay.specs.Run.{writtenOf, returnedOf, replayOf, outputOf}
 use Rattle.replay.specs.declared.run.Replayed.{Replayed}
-use Rattle.replay.proofs.Runs.{sound}
+use Rattle.replay.proofs.Runs.{replay-run, output-run}
 use Rattle.replay.proofs.Replaying.{length-written}
+use Rattle.every_replay.proofs.Counts.{sound}
 use Rattle.batch.specs.Fresh.{freshBench, freshRunOf, Bounded}
 
 -- no more answers than have room
@@ -26,12 +27,12 @@ answers-have-room batch room = sound batch room freshBench .has-room
 pub ran : (batch out : List ℕ) {out′ : List ℕ} {r : Replayed} {c : Controller} {m : Multiplexer} → c ≡ controller.freshOf → m ≡ multiplexer.freshOf
     → r ≡ replayOf batch out c m → out′ ≡ outputOf batch out c m
     → (r ≡ returnedOf (freshRunOf batch (length out))) × ((out′ ≡ laidAt out 0 (writtenOf (freshRunOf batch (length out) .answers))) × ((batch ≡ batch) × Bounded batch out out′ r))
-unfolding freshRunOf replayOf outputOf
+unfolding freshRunOf
 ran batch out {out′} {r} {c} {m} ec em er eo =
     let run = freshRunOf batch (length out) in
     let s = sound batch (length out) freshBench in
-    let returned : r ≡ returnedOf run = rw (ec, em) at er in
-    let output : out′ ≡ laidAt out 0 (writtenOf (run .answers)) = rw (ec, em) at eo in
+    let returned : r ≡ returnedOf run = rw (ec, em) at (er ∙ replay-run batch out c m) in
+    let output : out′ ≡ laidAt out 0 (writtenOf (run .answers)) = rw (ec, em) at (eo ∙ output-run batch out c m) in
     let bounded : Bounded batch out out′ r =
     record {
       same = ap length output ∙ length-laid out 0 (writtenOf (run .answers)) (omega (arith, length-written (run .answers), s .has-room));

@@ -5,15 +5,18 @@ use native.Mathlib.Omega.{arith}
 use Rattle.basics.specs.Iterate.{iterate}
 use Rattle.clocks.specs.declared.place.Place.{Place}
 use Rattle.clocks.specs.declared.place.Walk.{Walk}
-use Rattle.clocks.specs.Walk.{steppedOf, walkOf}
+use Rattle.clocks.specs.Walk.{walkOf}
+use Rattle.clocks.proofs.Walking.{stepped, walk-one, walk-more}
 use Rattle.controller.specs.Chip.{stepOf, clockOf}
 use Rattle.controller.specs.private.Walked.{placeOf, walkedOf}
 use Rattle.controller.specs.declared.chip.Controller.{Controller}
 
 pub by-walk : (c : Controller) (m : ℕ) → clockOf (suc m) c ≡ walkedOf c (walkOf (c .regs) (suc m) (placeOf c))
-unfolding iterate clockOf stepOf steppedOf walkOf walkedOf
-by-walk c zero = refl
-by-walk c (suc m) = ap stepOf (by-walk c m)
+unfolding iterate clockOf stepOf walkedOf
+by-walk c zero = rw (walk-one (c .regs) (placeOf c), stepped (c .regs) (placeOf c))
+by-walk c (suc m) =
+    let w = walkOf (c .regs) (suc m) (placeOf c) in
+    ap stepOf (by-walk c m) ∙ rw (walk-more (c .regs) (placeOf c) m, stepped (c .regs) (w .place))
 
 module _ (c d : Controller) (n : ℕ) where
   -- the code's two returns: a walk, and no time at all

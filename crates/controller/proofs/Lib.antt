@@ -2,3 +2,4 @@ pub mod Clocking
 pub mod Reading
 pub mod Keeping
 pub mod Widths
+pub mod Times

@@ -15,21 +15,23 @@ use Rattle.text.specs.Hex.{hexOf}
 use Rattle.text.specs.Lines.{rowsOf}
 use Rattle.text.specs.Speech.{tooLong}
 use Rattle.text.proofs.Hexing.{length-hex}
+use Rattle.text.proofs.Lining.{rows-none, rows-first}
 use Rattle.replay.specs.Run.{Run, writtenOf, returnedOf}
 use Rattle.replay.specs.declared.run.Replayed.{Replayed}
+use Rattle.replay.proofs.Replaying.{written-first}
 use Rattle.batch.specs.Fresh.{mostOutput, freshRunOf}
 use Rattle.batch.proofs.Ran.{answers-have-room}
 use Rattle.lister.specs.Lines.{oddOf, lineEndOf, answerLinesOf, endOf}
 use Rattle.lister.specs.private.Marked.{markedOf}
-use Rattle.lister.specs.private.Lengths.{markedLength}
+use Rattle.lister.specs.Lengths.{markedLength, listingLength}
 use Rattle.lister.specs.Listing.{listedOf, batchListingOf, listingOf}
-use Rattle.lister.specs.private.Lengths.{listingLength}
 
 -- the lines of answers that were written one after the other, whatever stands behind them
 lines-answers : (l : List Answer) (t : List ℕ) → rowsOf markedOf (length l) (writtenOf l ++ t) ≡ answerLinesOf l
-unfolding rowsOf writtenOf answerLinesOf markedOf
-lines-answers [] t = refl
-lines-answers (a ∷ l) t = ap (λ (w : List ℕ). markedOf (bytesOf a) ++ w) (lines-answers l t)
+unfolding answerLinesOf markedOf
+lines-answers [] t = rows-none markedOf (writtenOf [] ++ t)
+lines-answers (a ∷ l) t =
+    rw (rows-first markedOf (length l) (writtenOf (a ∷ l) ++ t), written-first a l) (ap (λ (w : List ℕ). markedOf (bytesOf a) ++ w) (lines-answers l t))
 
 -- the answers' lines, made of the output that a replay left, and then the ending
 pub lists : {t u s out′ : List ℕ} {p q : ℕ} {r : Replayed} (batch out : List ℕ) → length out ≡ mostOutput → r ≡ returnedOf (freshRunOf batch (length out))

@@ -4,6 +4,7 @@ ghost use lib.ListN.{length};
 ghost use Rattle.basics.specs.Lay.{Writes, laidAt};
 ghost use Rattle.text.specs.Speech.{Counts};
 ghost use Rattle.lister.specs.Listing.{batchListingOf, listingOf};
+ghost use Rattle.lister.specs.Lengths.{listingLength};
 use crate::lines::END;
 use crate::lines::MARKED;
 use crate::lines::end_line;
@@ -29,6 +30,7 @@ fn batch_listing(text: &mut [u8], batch: &[u8]) -> usize
 
 // The text for an input, laid at the front; how long it is.
 pub fn list(input: &[u8], text: &mut [u8; TEXT]) -> usize
+    ensures room { λ n. ⌜ length (now (text .entry)) ≡ listingLength ⌝ }
     ensures long { λ n. ⌜ n ≡ length (listingOf (now (input .entry))) ⌝ }
     ensures laid { λ n. ⌜ now (text .exit) ≡ laidAt (now (text .entry)) 0 (listingOf (now (input .entry))) ⌝ }
     ensures part { λ n. ⌜ Counts n (now (text .exit)) ⌝ }

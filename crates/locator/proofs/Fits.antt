@@ -1,12 +1,11 @@
 -- The fit of a list of cells, taken apart as the code meets them: row by row, part by part of a row, and in a part the one column that
 -- can fit.
 -- Assumes nothing.
-use Prim.Native.Nat.{ℕ, zero, suc, _+_, _%_, _≤_, _<_}
+use Prim.Native.Nat.{ℕ, zero, suc, _+_, _-_, _%_, _≤_, _<_}
 use mathlib.Core.Path.{_≡_, refl, ap, sym, _∙_}
 use mathlib.Core.Bool.{Bool, true, false}
 use mathlib.Core.List.{List, [], _∷_, _++_, map, map-append, append-assoc, append-nil}
-use mathlib.Core.Logic.{⊎-elim}
-use native.Mathlib.Nat.{add-zero, add-suc, suc-add, zero-add, eq-or-lt-of-le}
+use native.Mathlib.Nat.{add-zero, add-suc, suc-add, zero-add}
 use native.Mathlib.Numerals.{add-one}
 use native.Mathlib.Omega.{arith}
 use borrow.Author.Tests.{eqb-true}
@@ -20,7 +19,8 @@ use Rattle.facts.proofs.Addresses.{latch-by-base, latch-by-rows}
 use Rattle.locator.specs.Cells.{cellAt, rowCells, cellsFrom, cellScanOf, cellLatchOf, fitsOf, keep, theFit}
 use Rattle.locator.specs.private.Search.{joinedOf, partFitOf, rowFitOf, fromBaseOf, fromLowOf}
 use Rattle.locator.specs.declared.cells.Cell.{Cell}
-use Rattle.locator.specs.declared.fit.Fit.the-variants.{Free}
+use Rattle.locator.specs.declared.fit.Fit.{Fit}
+use Rattle.locator.specs.declared.fit.Fit.the-variants.{Free, One, Many}
 
 keep-append : {A : Type 0} (f : A → Bool) (l m : List A) → keep f (l ++ m) ≡ keep f l ++ keep f m
 unfolding if_then_else_ keep
@@ -38,6 +38,12 @@ fit-append (c ∷ []) [] = refl
 fit-append (c ∷ []) (d ∷ []) = refl
 fit-append (c ∷ []) (d ∷ e ∷ m) = refl
 fit-append (c ∷ d ∷ l) m = refl
+
+joined-free : (f : Fit) → joinedOf f Free ≡ f
+unfolding joinedOf
+joined-free Free = refl
+joined-free (One c) = refl
+joined-free Many = refl
 
 -- of the cells that a test keeps, in two lists one after the other
 fit-joined : (f : Cell → Bool) (l m : List Cell) → theFit (keep f (l ++ m)) ≡ joinedOf (theFit (keep f l)) (theFit (keep f m))
@@ -75,38 +81,42 @@ keep-skip f c l h = go (f c) refl
     go true e = absurd (h e)
     go false e = refl
 
--- a row of which only one column can fit
-module _ (f : Cell → Bool) (row : ℕ) where
-  no-column : (a n : ℕ) → ((x : ℕ) → a ≤ x → x < a + n → f (cellAt row x) ≡ true → ⊥) → keep f (map (cellAt row) (count a n)) ≡ []
+-- a row of which only one column can fit, in parts: the columns before it, that column, and those behind it
+module _ (r : Registers) (latch row : ℕ) where
+  none-kept : (a n : ℕ) → ((x : ℕ) → a ≤ x → x < a + n → fitsOf r latch (cellAt row x) ≡ true → ⊥) → keep (fitsOf r latch) (map (cellAt row) (count a n)) ≡ []
   unfolding count keep
-  no-column a zero h = refl
-  no-column a (suc n) h =
-      keep-skip f (cellAt row a) (map (cellAt row) (count (suc a) n)) (h a (omega arith) (omega arith))
-      ∙ no-column (suc a) n (λ x p q. h x (omega arith) (omega arith))
+  none-kept a zero h = refl
+  none-kept a (suc n) h =
+      keep-skip (fitsOf r latch) (cellAt row a) (map (cellAt row) (count (suc a) n)) (h a (omega arith) (omega arith))
+      ∙ none-kept (suc a) n (λ x p q. h x (omega arith) (omega arith))
 
-  one-column : (k a n : ℕ) → a ≤ k → k < a + n → ((x : ℕ) → a ≤ x → x < a + n → f (cellAt row x) ≡ true → x ≡ k)
-      → keep f (map (cellAt row) (count a n)) ≡ keep f (cellAt row k ∷ [])
-  unfolding count keep
-  one-column k a zero p q h = absurd (omega arith)
-  one-column k a (suc n) p q h =
-      ⊎-elim
-      (λ (e : a ≡ k).
-      ap (λ (l : List Cell). if f (cellAt row a) then cellAt row a ∷ l else l)
-      (no-column (suc a) n (λ x u v w. let y = h x (omega arith) (omega arith) w in omega arith))
-      ∙ ap (λ (x : ℕ). keep f (cellAt row x ∷ [])) e)
-      (λ (l : a < k).
-      keep-skip f (cellAt row a) (map (cellAt row) (count (suc a) n)) (λ w. let y = h a (omega arith) (omega arith) w in omega arith)
-      ∙ one-column k (suc a) n l (omega arith) (λ x u v. h x (omega arith) (omega arith)))
-      (eq-or-lt-of-le p)
+  no-column : (a n : ℕ) → ((x : ℕ) → a ≤ x → x < a + n → fitsOf r latch (cellAt row x) ≡ true → ⊥) → partFitOf r latch row a n ≡ Free
+  unfolding partFitOf theFit
+  no-column a n h = ap theFit (none-kept a n h)
 
-  pub only-inside : (k n : ℕ) → k < n → ((x : ℕ) → x < n → f (cellAt row x) ≡ true → x ≡ k)
-      → theFit (keep f (map (cellAt row) (count 0 n))) ≡ theFit (keep f (cellAt row k ∷ []))
-  only-inside k n p h = ap theFit (one-column k 0 n (omega arith) (omega arith) (λ x u v. h x (omega arith)))
+  one-column : (k : ℕ) → partFitOf r latch row k 1 ≡ theFit (keep (fitsOf r latch) (cellAt row k ∷ []))
+  unfolding partFitOf count
+  one-column k = refl
 
-  pub only-outside : (k n : ℕ) → n ≤ k → ((x : ℕ) → x < n → f (cellAt row x) ≡ true → x ≡ k)
-      → theFit (keep f (map (cellAt row) (count 0 n))) ≡ Free
-  unfolding theFit
-  only-outside k n p h = ap theFit (no-column 0 n (λ x u v w. let y = h x (omega arith) w in omega arith))
+  pub only-inside : (k n : ℕ) → k < n → ((x : ℕ) → x < n → fitsOf r latch (cellAt row x) ≡ true → x ≡ k)
+      → partFitOf r latch row 0 n ≡ theFit (keep (fitsOf r latch) (cellAt row k ∷ []))
+  unfolding joinedOf
+  only-inside k n p h =
+      let behind = n - (k + 1) in
+      let all : n ≡ k + (1 + behind) = omega arith in
+      let before : partFitOf r latch row 0 k ≡ Free = no-column 0 k (λ x u v w. let y = h x (omega arith) w in omega arith) in
+      let after : partFitOf r latch row (k + 1) behind ≡ Free = no-column (k + 1) behind (λ x u v w. let y = h x (omega arith) w in omega arith) in
+      ap (partFitOf r latch row 0) all
+      ∙ parts-joined r latch row 0 k (1 + behind)
+      ∙ ap (λ (f : Fit). joinedOf f (partFitOf r latch row (0 + k) (1 + behind))) before
+      ∙ ap (λ (x : ℕ). partFitOf r latch row x (1 + behind)) (zero-add k)
+      ∙ parts-joined r latch row k 1 behind
+      ∙ ap (joinedOf (partFitOf r latch row k 1)) after
+      ∙ joined-free (partFitOf r latch row k 1)
+      ∙ one-column k
+
+  pub only-outside : (k n : ℕ) → n ≤ k → ((x : ℕ) → x < n → fitsOf r latch (cellAt row x) ≡ true → x ≡ k) → partFitOf r latch row 0 n ≡ Free
+  only-outside k n p h = no-column 0 n (λ x u v w. let y = h x (omega arith) w in omega arith)
 
 -- the column that a latch leaves over from its row's first address, in either way of addressing
 counted-on : (base x latch : ℕ) → x < 256 → ((base + x) % 16384 + 2) % 16384 ≡ latch → x ≡ fromBaseOf base latch

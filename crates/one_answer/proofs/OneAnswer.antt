@@ -367,10 +367,10 @@ pub batch-replay-fresh : OneAnswer batch·replay-fresh.Post (λ κs r s. r besid
 batch-replay-fresh κs a x y s t p q = one-answer (p .0) (q .0) and one-answer (p .1 .0) (q .1 .0) and one-answer (p .1 .1 .0) (q .1 .1 .0)
 
 pub lister-list : OneAnswer lister·list.Post (λ κs r s. r beside now (s .1 .0) beside now (s .0))
-lister-list κs a x y s t p q = one-answer (p .0) (q .0) and one-answer (p .1 .0) (q .1 .0) and one-answer (p .1 .1 .1) (q .1 .1 .1)
+lister-list κs a x y s t p q = one-answer (p .1 .0) (q .1 .0) and one-answer (p .1 .1 .0) (q .1 .1 .0) and one-answer (p .1 .1 .1 .1) (q .1 .1 .1 .1)
 
 pub rooms-text-room : OneAnswer rooms-text·room.Post (λ κs r s. r beside now (s .1 .0) beside now (s .0))
-rooms-text-room κs a x y s t p q = one-answer (p .0) (q .0) and one-answer (p .1 .0) (q .1 .0) and one-answer (p .1 .1 .1) (q .1 .1 .1)
+rooms-text-room κs a x y s t p q = one-answer (p .1 .0) (q .1 .0) and one-answer (p .1 .1 .0) (q .1 .1 .0) and one-answer (p .1 .1 .1 .1) (q .1 .1 .1 .1)
 
 pub exports-controller-fresh : OneAnswer exports·controller-fresh.Post (λ κs r s. r)
 exports-controller-fresh κs a x y s t p q = one-answer p q

@@ -29,16 +29,17 @@ use Rattle.record.specs.Decode.{decodeOf}
 use Rattle.record.specs.Refusals.{Refusals as RecordRefusals}
 use Rattle.record.proofs.Refusals.{refusals as record-refusals}
 use Rattle.bench.specs.Step.{stepOf}
-use Rattle.bench.specs.Refusals.{Refusals as BenchRefusals}
-use Rattle.bench.specs.Alone.{AsOnTheBench}
 use Rattle.bench.specs.declared.step.Bench.{Bench}
-use Rattle.bench.proofs.Refusals.{refusals as bench-refusals}
 use Rattle.alone.specs.Records.{writeRecordOf, clockRecordOf, strikeRecordOf}
-use Rattle.bench.proofs.OnTheBench.{as-on-the-bench}
+use Rattle.every_record.specs.Refusals.{Refusals as BenchRefusals}
+use Rattle.every_record.specs.Alone.{AsOnTheBench}
+use Rattle.every_record.proofs.Refusals.{refusals as bench-refusals}
+use Rattle.every_record.proofs.OnTheBench.{as-on-the-bench}
 use Rattle.replay.specs.Run.{runOf, replayOf, outputOf}
 use Rattle.replay.specs.Rest.{restOf, restAt}
-use Rattle.replay.specs.Laws.{Sound, Runs}
-use Rattle.replay.proofs.Runs.{sound, runs}
+use Rattle.every_replay.specs.Runs.{Sound, Runs}
+use Rattle.every_replay.proofs.Counts.{sound}
+use Rattle.every_replay.proofs.Parts.{runs}
 use Rattle.text.specs.Speech.{saidOf}
 use Rattle.lister.specs.Listing.{listingOf}
 use Rattle.rooms_text.specs.Rooms.{roomTextOf}
@@ -100,10 +101,10 @@ pub rest-place : States replay·unread-rest.Post (λ κs a r s. r .ptr ≡ restA
 rest-place κs a r s p = p .1 .0
 
 pub listing-text : States lister·list.Post (λ κs a r s. (r ≡ length (listingOf (now (a .0)))) × (now (s .1 .0) ≡ laidAt (now (a .1 .0)) 0 (listingOf (now (a .0)))))
-listing-text κs a r s p = (p .0, p .1 .0)
+listing-text κs a r s p = (p .1 .0, p .1 .1 .0)
 
 pub room-text : States rooms-text·room.Post (λ κs a r s. (r ≡ length (roomTextOf (now (a .0)))) × (now (s .1 .0) ≡ laidAt (now (a .1 .0)) 0 (roomTextOf (now (a .0)))))
-room-text κs a r s p = (p .0, p .1 .0)
+room-text κs a r s p = (p .1 .0, p .1 .1 .0)
 
 pub text-said : States text·said.Post (λ κs a r s. r ≡ saidOf (a .0) (now (a .1 .0)))
 text-said κs a r s p = p .0

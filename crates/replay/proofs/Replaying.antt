@@ -15,13 +15,17 @@ use Rattle.bench.specs.declared.step.Stepped.{Stepped}
 use Rattle.replay.specs.Run.{stop, onto, after, runOf, writtenOf, returnedOf, endedOf}
 use Rattle.replay.specs.private.Step.{stepAt}
 use Rattle.replay.specs.declared.run.Replayed.{Replayed}
-use Rattle.replay.proofs.Runs.{onto-none, onto-onto, run-full, run-more}
+use Rattle.replay.proofs.Runs.{onto-none, onto-onto, run-none, run-short, run-full, run-more}
 
 -- eight bytes for each answer, and one answer more
 pub length-written : (l : List Answer) → length (writtenOf l) ≡ 8 * length l
 unfolding writtenOf
 length-written [] = refl
 length-written (a ∷ l) = omega (arith, length-written l)
+
+pub written-first : (a : Answer) (l : List Answer) → writtenOf (a ∷ l) ≡ bytesOf a ++ writtenOf l
+unfolding writtenOf
+written-first a l = refl
 
 written-next : (l : List Answer) (a : Answer) → writtenOf (l ++ (a ∷ [])) ≡ writtenOf l ++ bytesOf a
 unfolding writtenOf
@@ -37,15 +41,6 @@ record-at l i h =
       drop-next l (i + 2) (i + 3) (omega arith) (omega arith),
       drop-next l (i + 3) (i + 4) (omega arith) (omega arith),
     )
-
--- one to three bytes
-pub short : (x : List ℕ) (room : ℕ) (b : Bench) → 0 < length x → length x < 4 → runOf x room b ≡ stop b 3
-unfolding runOf
-short [] room b h g = absurd (omega arith)
-short (x ∷ []) room b h g = refl
-short (x ∷ y ∷ []) room b h g = refl
-short (x ∷ y ∷ z ∷ []) room b h g = refl
-short (w ∷ x ∷ y ∷ z ∷ r) room b h g = absurd (omega arith)
 
 -- what the loop has reached: at these chips, with so many bytes taken and so many answers written
 pub record Reached (batch out₀ : List ℕ) (b₀ : Bench) (out : List ℕ) (b : Bench) (taken answers : ℕ) : Type 0 where
@@ -83,12 +78,11 @@ module _ {batch out₀ : List ℕ} {b₀ : Bench} {out : List ℕ} {b : Bench} {
   )
 
   pub ends-empty : length batch ≤ taken → Given batch out₀ b₀ out (endedOf b 0 taken answers)
-  unfolding runOf
-  ends-empty g = ends 0 (rw (drop-of-length-le batch g))
+  ends-empty g = ends 0 (rw (drop-of-length-le batch g) (run-none (length out₀ - 8 * answers) b))
 
   pub ends-short : taken < length batch → length batch - taken < 4 → Given batch out₀ b₀ out (endedOf b 3 taken answers)
   ends-short g k =
-      ends 3 (short (drop taken batch) (length out₀ - 8 * answers) b (simp length-drop (omega arith)) (simp length-drop (omega arith)))
+      ends 3 (run-short (drop taken batch) (length out₀ - 8 * answers) b (simp length-drop (omega arith)) (simp length-drop (omega arith)))
 
   pub ends-full : taken + 4 ≤ length batch → length out₀ - 8 * answers < 8 → Given batch out₀ b₀ out (endedOf b 4 taken answers)
   ends-full g k = ends 4 (rw (record-at batch taken g) (run-full _ _ _ _ _ (length out₀ - 8 * answers) b k))

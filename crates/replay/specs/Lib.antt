@@ -1,4 +1,3 @@
 pub mod Run
 pub mod Rest
-pub mod Laws
 pub mod private

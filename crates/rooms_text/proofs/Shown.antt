@@ -20,7 +20,7 @@ use Rattle.text.specs.Lines.{linesOf}
 use Rattle.text.specs.Speech.{tooLong}
 use Rattle.text.proofs.Lining.{length-lines}
 use Rattle.rooms_text.specs.Rooms.{roomOf, countsOf, ranTextOf, shownOf, noRoom, headBytes, roomTextOf}
-use Rattle.rooms_text.specs.private.Lengths.{roomTextLength}
+use Rattle.rooms_text.specs.Lengths.{roomTextLength}
 
 -- the counts and then the whole output, of what a replay gave
 pub shows : {t u s out′ told : List ℕ} {p q : ℕ} {r : Replayed} (batch out : List ℕ) → r ≡ returnedOf (freshRunOf batch (length out))

@@ -5,6 +5,7 @@ ghost use lib.ListN.{length};
 ghost use Rattle.basics.specs.Lay.{Writes, laidAt};
 ghost use Rattle.batch.specs.Fresh.{mostBytes, mostOutput};
 ghost use Rattle.text.specs.Speech.{Counts};
+ghost use Rattle.rooms_text.specs.Lengths.{roomTextLength};
 ghost use Rattle.rooms_text.specs.Rooms.{roomOf, countsOf, shownOf, roomTextOf};
 use basics::high;
 use basics::low;
@@ -71,6 +72,7 @@ fn shown(text: &mut [u8], batch: &[u8], out: &mut [u8]) -> usize
 
 // The text for an input, laid at the front; how long it is.
 pub fn room(input: &[u8], text: &mut [u8; TEXT]) -> usize
+    ensures room { λ n. ⌜ length (now (text .entry)) ≡ roomTextLength ⌝ }
     ensures long { λ n. ⌜ n ≡ length (roomTextOf (now (input .entry))) ⌝ }
     ensures laid { λ n. ⌜ now (text .exit) ≡ laidAt (now (text .entry)) 0 (roomTextOf (now (input .entry))) ⌝ }
     ensures part { λ n. ⌜ Counts n (now (text .exit)) ⌝ }

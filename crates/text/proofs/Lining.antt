@@ -30,6 +30,15 @@ row-part bytes i to h e =
     (lt-or-ge (length bytes) (perLine * i + perLine))
 
 module _ (f : List ℕ → List ℕ) where
+  -- no line, and a first line before the others
+  pub rows-none : (bytes : List ℕ) → rowsOf f 0 bytes ≡ []
+  unfolding rowsOf
+  rows-none bytes = refl
+
+  pub rows-first : (n : ℕ) (bytes : List ℕ) → rowsOf f (suc n) bytes ≡ f (take perLine bytes) ++ rowsOf f n (drop perLine bytes)
+  unfolding rowsOf
+  rows-first n bytes = refl
+
   -- one line more
   rows-suc : (n : ℕ) (bytes : List ℕ) → rowsOf f (suc n) bytes ≡ rowsOf f n bytes ++ f (rowAt n bytes)
   unfolding rowsOf

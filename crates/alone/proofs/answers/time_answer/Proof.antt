@@ -1,4 +1,4 @@
-use Rattle.controller.specs.Bytes.{timeBytesOf}
+use Rattle.controller.proofs.Times.{time-bytes}
 use borrow.Author.Needs.{needs}
 use Rattle.alone.proofs.answers.time_answer.Statement.{statement}
 use Rattle.alone.proofs.answers.time_answer.Tie as tie
@@ -22,8 +22,7 @@ done-requires : tie.Need-done-requires
 done-requires c κs = search needs
 
 returns : tie.Need-returns
-unfolding timeBytesOf
-returns c = rw (c .before .bytes .ensures) at (c .done .ensures)
+returns c = rw (time-bytes _) (rw (c .before .bytes .ensures, time-bytes _) at (c .done .ensures))
 
 pub time-answer-spec : {M : Type 1} → statement M
 time-answer-spec =

@@ -29,7 +29,11 @@ blink-requires c κs = search needs
 
 returns : tie.Need-returns
 unfolding cursorOf
-returns c = cc
+returns c =
+    let lined = c .before .before in
+    let worded = lined .before in
+    let asked = worded .before .before .before in
+    rw (asked .before .picture .ensures, asked .ma .ensures, worded .word .ensures, lined .cursor-line .ensures, c .blink .ensures)
 
 pub cursor-spec : {M : Type 1} → statement M
 cursor-spec =

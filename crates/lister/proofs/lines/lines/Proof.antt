@@ -6,7 +6,7 @@ use lib.ListN.{length, length-take, length-drop}
 use Rattle.basics.specs.Lay.{Writes}
 use Rattle.basics.proofs.Laying.{writes-nothing}
 use Rattle.text.specs.Lines.{perLine, rowsOf}
-use Rattle.text.proofs.Lining.{row-part, writes-row}
+use Rattle.text.proofs.Lining.{rows-none, row-part, writes-row}
 use Rattle.lister.specs.private.Marked.{markedOf}
 use Rattle.lister.proofs.lines.lines.Statement.{statement}
 use Rattle.lister.proofs.lines.lines.Tie as tie
@@ -18,8 +18,7 @@ abbrev μ-loop : tie.MeasureT-loop
 μ-loop text₀ p answers n q₀ i₀ text q i = n - i
 
 loop-holds : tie.Need-loop-holds Inv-loop μ-loop
-unfolding rowsOf
-loop-holds c = (omega arith, refl, writes-nothing)
+loop-holds c = (omega arith, refl, rw (rows-none markedOf _) writes-nothing)
 
 mul-from : tie.Need-mul-from Inv-loop μ-loop
 mul-from c = omega arith

@@ -20,7 +20,7 @@ returns : tie.Need-returns
 unfolding listingOf if_then_else_
 returns c =
     let long = c .before .before .before in
-    whole-text (omega (arith, listing-has-room (now (long .before .before .args .input)))) (rw (lt-ltb mostBytes _ (long .if1 .taken)) (c .put .ensures .1 .1 .1))
+    (omega arith, whole-text (omega (arith, listing-has-room (now (long .before .before .args .input)))) (rw (lt-ltb mostBytes _ (long .if1 .taken)) (c .put .ensures .1 .1 .1)))
 
 batch-listing-requires : tie.Need-batch-listing-requires
 batch-listing-requires c κs = search needs
@@ -29,7 +29,7 @@ returns-2 : tie.Need-returns-2
 unfolding listingOf if_then_else_
 returns-2 c =
     let short = c .before .before in
-    whole-text (omega (arith, listing-has-room (now (short .before .before .args .input)))) (rw (le-ltb mostBytes _ (short .if1 .left)) (c .batch-listing .ensures))
+    (omega arith, whole-text (omega (arith, listing-has-room (now (short .before .before .args .input)))) (rw (le-ltb mostBytes _ (short .if1 .left)) (c .batch-listing .ensures)))
 
 pub list-spec : {M : Type 1} → statement M
 list-spec =

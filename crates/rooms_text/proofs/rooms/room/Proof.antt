@@ -25,7 +25,7 @@ unfolding roomTextOf if_then_else_
 returns c =
     let short = c .before .before .before in
     let input = now (short .before .before .args .input) in
-    whole-text (omega (arith, room-text-has-room input)) (rw (lt-ltb _ headBytes (short .if1 .taken)) (c .put .ensures .1 .1 .1))
+    (omega arith, whole-text (omega (arith, room-text-has-room input)) (rw (lt-ltb _ headBytes (short .if1 .taken)) (c .put .ensures .1 .1 .1)))
 
 slice-aggregate-put-2 : tie.Need-slice-aggregate-put-2
 slice-aggregate-put-2 c = search needs
@@ -37,10 +37,12 @@ returns-2 : tie.Need-returns-2
 unfolding roomTextOf if_then_else_
 returns-2 c =
     let long = c .before .before .before in
-    let input = now (long .before .before .before .args .input) in
-    whole-text
-    (omega (arith, room-text-has-room input))
-    (rw (le-ltb _ headBytes (long .before .if1 .left), lt-ltb (headBytes + mostBytes) _ (long .if2 .taken)) (c .put2 .ensures .1 .1 .1))
+    let input = now (long .before .before .before .args .input) in (
+      omega arith,
+      whole-text
+          (omega (arith, room-text-has-room input))
+          (rw (le-ltb _ headBytes (long .before .if1 .left), lt-ltb (headBytes + mostBytes) _ (long .if2 .taken)) (c .put2 .ensures .1 .1 .1)),
+    )
 
 shared-slice-read-room-of : tie.Need-shared-slice-read-room-of
 shared-slice-read-room-of c = search needs
@@ -81,11 +83,13 @@ returns-3 c =
     let r = read .room-of in
     let input = now (tests .before .before .before .args .input) in
     let rest : take (length input - headBytes) (drop headBytes input) ≡ drop headBytes input =
-    take-all (length input - headBytes) (drop headBytes input) (simp length-drop (omega arith)) in
-    whole-text
-    (omega (arith, room-text-has-room input))
-    (rw (le-ltb _ headBytes (tests .before .if1 .left), le-ltb (headBytes + mostBytes) _ (tests .if2 .left))
-    (rw (rest, front (r .result) mostOutput 0xA5 (r .ensures .1), r .ensures .0) at (shown .shown .ensures)))
+    take-all (length input - headBytes) (drop headBytes input) (simp length-drop (omega arith)) in (
+      omega arith,
+      whole-text
+          (omega (arith, room-text-has-room input))
+          (rw (le-ltb _ headBytes (tests .before .if1 .left), le-ltb (headBytes + mostBytes) _ (tests .if2 .left))
+          (rw (rest, front (r .result) mostOutput 0xA5 (r .ensures .1), r .ensures .0) at (shown .shown .ensures))),
+    )
 
 pub room-spec : {M : Type 1} → statement M
 room-spec =

@@ -8,7 +8,7 @@ wrapping-add-u16-requires c κs = search needs
 
 returns : tie.Need-returns
 unfolding advanced
-returns c = cc
+returns c = rw (c .wrapping-add-u16 .ensures)
 
 pub advance-spec : {M : Type 1} → statement M
 advance-spec = tie.close (tie.spec wrapping-add-u16-requires returns)

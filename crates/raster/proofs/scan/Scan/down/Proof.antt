@@ -6,7 +6,7 @@ five-on-requires : tie.Need-five-on-requires
 five-on-requires c κs = search needs
 
 returns : tie.Need-returns
-returns c = cc
+returns c = rw (c .five-on .ensures)
 
 pub down-spec : {M : Type 1} → statement M
 down-spec = tie.close (tie.spec five-on-requires returns)

@@ -11,7 +11,7 @@ vertical-requires c κs = search needs
 
 returns : tie.Need-returns
 unfolding arriveOf
-returns c = cc
+returns c = rw (c .before .horizontal .ensures, c .vertical .ensures)
 
 pub arrive-spec : {M : Type 1} → statement M
 arrive-spec = tie.close (tie.spec horizontal-requires vertical-requires returns)

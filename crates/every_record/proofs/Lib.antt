@@ -1,0 +1,2 @@
+pub mod OnTheBench
+pub mod Refusals

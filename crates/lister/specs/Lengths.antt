@@ -1,0 +1,14 @@
+-- How long a listing can be (document 01, "Records and what comes back", the listing program).
+use Prim.Native.Nat.{ℕ, _+_, _*_}
+use lib.ListN.{length}
+use Rattle.batch.specs.Fresh.{mostAnswers}
+use Rattle.text.specs.Lengths.{lineLength}
+use Rattle.lister.specs.Lines.{mark, endOf}
+
+-- no line is longer than this
+abbrev pub markedLength : ℕ
+markedLength = lineLength + length mark
+
+-- no listing is longer: a line for each answer, and the last line
+abbrev pub listingLength : ℕ
+listingLength = markedLength * mostAnswers + length (endOf 0)
