@@ -179,22 +179,23 @@ def check_static(top):
 
 @dataclasses.dataclass
 class Refusal:
-    """What a log says against one thing: the function or the law, and the words."""
+    """What a log says: the function that it says it of, nothing where it is of a law or of no one thing, and the words."""
 
     of: str
     said: str
 
 
-def refused_by(file, line):
-    """What an error in a file speaks of: a function has one proof file, and a file of laws has many laws."""
-    return file if file.endswith("/Proof.antt") else f"{file}:{line}"
+def function_of(file):
+    """The function whose proof a file is, as a log names it, or nothing for a file of laws."""
+    proof = re.search(r"/must-fail/([^/]+)/[^/]+/proofs/(.+)/Proof\.antt$", file)
+    return "::".join([proof[1], *proof[2].split("/")]) if proof else ""
 
 
 def refusals_of(log):
     """What a log says against the crate: each error with the lines below it, each note that something is not proved, each function."""
     said, open_error, notes = [], False, []
     for line in log.split("\n"):
-        error = re.match(r"(\S+):(\d+):\d+: error: (.*)", line) or re.match(r"(error)():? ?(.*)", line)
+        error = re.match(r"(\S+):\d+:\d+: error: (.*)", line) or re.match(r"(error):? ?(.*)", line)
         note = re.match(r"note: \S+:\d+:\d+: (it is not proved .*)", line)
         item = re.match(r"(?:fn|struct|enum) ([^ ]+): (.*)", line)
         if open_error and line.startswith("  "):
@@ -203,7 +204,7 @@ def refusals_of(log):
         open_error = bool(error)
         if error:
             specs = re.search(r"/must-fail/[^/]+/[^/]+/specs/", error.group(1))
-            said.append(Refusal(refused_by(*error.group(1, 2)), f"error{' in specs' if specs else ''}: {error.group(3)}"))
+            said.append(Refusal(function_of(error.group(1)), f"error{' in specs' if specs else ''}: {error.group(2)}"))
         elif note:
             notes.append(Refusal("", "note: " + note.group(1)))
             said.append(notes[-1])
@@ -258,7 +259,32 @@ def outside_quotes(refusal):
     return "`".join(parts)
 
 
-def check_log(log, pairs=1):
+def places_of(folder, text):
+    """For each replacement of an edit the function that it stands in, with its type if it has one; nothing for a constant or a rule."""
+    for pair in pairs_of(text):
+        before = (folder / pair.file).read_text()
+        functions = source.Reader(before).functions if pair.file.endswith(".rt") and pair.old in before else []
+        line = source.line_at(before, before.find(pair.old))
+        yield next((name_of(one) for one in functions if one.body[0].line <= line <= one.body[-1].line), "")
+
+
+def name_of(function):
+    """A function's name, behind that of its type."""
+    return "::".join(filter(None, (function.owner, function.name)))
+
+
+def hidden(facts, places):
+    """What may hide behind another: a replacement without a fact of its very function, or a constant without one of yet another."""
+    named = [place for place in places if place]
+    own = {place: {fact for fact in facts if f"::{fact}".endswith(f"::{place}")} for place in named}
+    found = [f"{place} has two of its replacements" for place in sorted(own) if named.count(place) > 1]
+    found += [f"no fact is of {place}" for place in sorted(own) if not own[place]]
+    if len(facts - set().union(*own.values())) < len(places) - len(named):
+        found.append("no fact is of a constant alone")
+    return found
+
+
+def check_log(log, places=("",)):
     """The class of a log's first refusal, and what is wrong with the log. Of several replacements each has to be refused for a fact."""
     if not re.search(rf"^{CHECKED}", log, re.M):
         return "", ["its log does not say that the prover refused it"]
@@ -272,11 +298,11 @@ def check_log(log, pairs=1):
         elif kind == "fact":
             first = first or name
             if name != "open":  # that a function is open is said beside the fact itself
-                facts.add(refusal.of)
+                facts |= {refusal.of} - {""}
     if not first and not wrong:
         wrong.append("its log names no fact that it is refused for")
-    elif len(facts) < pairs:
-        wrong.append(f"it makes {pairs} replacements, and its log names facts of {len(facts)}: one may be hidden behind another")
+    if len(places) > 1:
+        wrong += [f"one of its {len(places)} replacements may be hidden: {what}" for what in hidden(facts, places)]
     return first, wrong
 
 
@@ -313,8 +339,8 @@ def check_logs(top, target):
                 wrong.append(f"{where}: its log is that of another edit, or of the crate as it was")
         except BadEdit as why:
             wrong.append(f"{where}: {why}")
-        pairs = len(list(pairs_of(path.read_text())))
-        first, faults = check_log((tried / ".log").read_text(errors="replace"), pairs)
+            continue
+        first, faults = check_log((tried / ".log").read_text(errors="replace"), list(places_of(crate, path.read_text())))
         wrong += [f"{where}: {fault}" for fault in faults]
         if not faults:
             counts[first] += 1

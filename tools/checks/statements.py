@@ -11,22 +11,22 @@ from checks import antt
 # By their paths: the first digits of the sum of all words outside comments.
 SUMS = {
     "crates/basics/specs/Lay.antt": "eb00da38c261183c",
-    "crates/every_record/specs/Alone.antt": "a8717d975bede313",
-    "crates/every_record/specs/Refusals.antt": "3053fc621f83204d",
     "crates/control/specs/Write.antt": "cc19ff58d2cfa836",
     "crates/controller/specs/Widths.antt": "1223d07be6f9281c",
     "crates/demand/specs/Demand.antt": "9f6bec85ca237f9a",
+    "crates/every_record/specs/Alone.antt": "a8717d975bede313",
+    "crates/every_record/specs/Refusals.antt": "3053fc621f83204d",
+    "crates/every_replay/specs/Runs.antt": "4b0a4dff2d7d8558",
     "crates/frames/specs/Calls.antt": "f9246236986c1748",
     "crates/frames/specs/Frames.antt": "cbdd1ca4dcdb0b61",
     "crates/frames/specs/Places.antt": "a8248c68dd4e85b2",
     "crates/raster/specs/Widths.antt": "91836725749cadd3",
     "crates/record/specs/Refusals.antt": "73e0ffde3f3569b6",
-    "crates/every_replay/specs/Runs.antt": "4b0a4dff2d7d8558",
+    "crates/refresh_and_pictures/specs/Picture.antt": "c38d3515d934dd97",
+    "crates/refresh_and_pictures/specs/Refresh.antt": "1e4f3c3808ec21aa",
     "crates/replay/specs/Run.antt": "af9cc5c81c5527a6",
     "crates/settled/specs/Cases.antt": "f10685c6f7dabc93",
     "crates/settled/specs/Premises.antt": "4c4ff8cdc9c103ff",
-    "crates/refresh_and_pictures/specs/Picture.antt": "c38d3515d934dd97",
-    "crates/refresh_and_pictures/specs/Refresh.antt": "1e4f3c3808ec21aa",
 }
 
 

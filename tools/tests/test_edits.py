@@ -146,20 +146,67 @@ class Logs(EditsTest):
         (self.where / ".log").write_text(WHERE + "`one-spec`: module `tie` has no `Need-returns-2` that can be named from here\n" + REFUSED)
         self.assertWrong("wrong.edit: refused for its shape")
 
-    def test_one_fact_for_two_replacements(self):
-        self.assertEqual(edits.check_log(FACT, 1), ("search", []))
-        self.assertIn("makes 2 replacements, and its log names facts of 1", edits.check_log(FACT, 2)[1][0])
 
-    def test_two_facts_of_one_function_for_two_replacements(self):
-        self.assertIn("makes 2 replacements, and its log names facts of 1", edits.check_log(FACT + FACT, 2)[1][0])
-        self.assertEqual(edits.check_log(FACT + FACT.replace("/one/", "/two/"), 2), ("search", []))
+class Several(unittest.TestCase):
+    """Of several replacements each is refused for a fact of its own."""
 
-    def test_notes_of_one_function_for_two_replacements(self):
-        note = "note: /x/src/lib.rt:2:1: it is not proved that what the function ensures holds when it returns (`returns`)\n"
-        opened = "fn alpha::{0}: no proof: expected `{0}-spec` in /x/proofs/{0}/Proof.antt; `search` does not close `returns`\n"
-        once, twice = note + note + opened.format("one"), note + opened.format("one") + note + opened.format("two")
-        self.assertIn("names facts of 1", edits.check_log(once + "logic=not-proved\n", 2)[1][0])
-        self.assertEqual(edits.check_log(twice + "logic=not-proved\n", 2), ("returns", []))
+    NOTE = "note: /x/src/lib.rt:2:1: it is not proved that what the function ensures holds when it returns (`returns`)\n"
+    OPEN = "fn alpha::{0}: no proof: expected `{0}-spec` in /x/proofs/{0}/Proof.antt; `search` does not close `returns`\n"
+
+    def assertHidden(self, log, places, what):
+        """One of the replacements has no fact of its own."""
+        self.assertIn(what, " ".join(edits.check_log(log, places)[1]))
+
+    def assertSeen(self, log, places):
+        """Each has one."""
+        self.assertEqual(edits.check_log(log, places)[1], [])
+
+    def of_two(self):
+        """A log with a fact of each of two functions, the one from its proof and the other from a note."""
+        return FACT.replace(REFUSED, "") + "fn alpha::one: not proved\n" + self.NOTE + self.OPEN.format("two") + "logic=not-proved\n"
+
+    def test_one_fact(self):
+        self.assertSeen(FACT, ["one"])
+        self.assertHidden(FACT, ["one", "two"], "one of its 2 replacements may be hidden: no fact is of two")
+
+    def test_a_fact_of_each(self):
+        self.assertSeen(self.of_two(), ["one", "two"])
+        self.assertHidden(self.of_two(), ["one", "three"], "no fact is of three")
+
+    def test_two_facts_of_one_function(self):
+        self.assertHidden(FACT + FACT, ["one", "two"], "no fact is of two")
+        self.assertHidden(FACT.replace(REFUSED, "") + self.NOTE + REFUSED, ["one", ""], "no fact is of a constant alone")
+
+    def test_two_replacements_in_one_function(self):
+        self.assertHidden(self.of_two(), ["one", "one"], "one has two of its replacements")
+
+    def test_a_name_that_another_ends_with(self):
+        log = self.NOTE + self.OPEN.format("Two::one") + self.NOTE + self.OPEN.format("no_one") + "logic=not-proved\n"
+        self.assertSeen(log, ["Two::one", "no_one"])
+        self.assertHidden(log, ["Three::one", "no_one"], "no fact is of Three::one")
+
+    def test_a_constant(self):
+        self.assertSeen(self.of_two(), ["one", ""])
+        self.assertHidden(self.of_two(), ["one", "", ""], "no fact is of a constant alone")
+
+    def test_facts_of_laws(self):
+        law = FACT.replace("proofs/one/Proof.antt", "proofs/Laws.antt").replace(REFUSED, "")
+        self.assertHidden(law + law.replace(":9:", ":19:") + FACT, ["one", ""], "no fact is of a constant alone")
+
+
+class Places(EditsTest):
+    """Where a replacement stands."""
+
+    def places(self, *old):
+        """The places of replacements of these texts, in a source that has a constant, a function and one of a type."""
+        file = "const TWO: u8 = 2;\n\nfn one(x: u8) -> u8\n    ensures { λ r. ⌜ r ≡ x ⌝ }\n{\n    x + 0\n}\n\nimpl Two {\n    fn one() -> u8\n    {\n        1\n    }\n}\n"
+        self.files[LIB] = file
+        self.write()
+        text = "file: src/lib.rt\n" + "".join(f"old: {words}\nnew: {words}9\n" for words in old)
+        return list(edits.places_of(self.top / "crates/alpha", text))
+
+    def test_places(self):
+        self.assertEqual(self.places("    x + 0", "        1", "const TWO: u8 = 2", "fn one(x: u8)"), ["one", "Two::one", "", ""])
 
 
 class Classes(unittest.TestCase):

@@ -4,6 +4,7 @@ use mathlib.Core.Path.{_≡_, refl}
 use mathlib.Core.Bool.{Bool, true, false}
 use Rattle.basics.specs.Choice.{if_then_else_}
 use Rattle.answer.specs.Answer.{plainOf}
+use Rattle.answer.proofs.Done.{Done}
 use Rattle.locator.specs.Locate.{locateOf}
 use Rattle.record.specs.Decode.{decodeOf, numberOf}
 use Rattle.record.specs.declared.event.Event.the-variants.{Write, Read, Clocks, Strike, Reset, Cycle, Fetches, Levels, Locate}
@@ -13,11 +14,6 @@ use Rattle.alone.specs.Events as alone
 use Rattle.bodies.specs.Bodies.{locatedAnswerOf}
 use Rattle.bench.specs.Step.{withController, onReset, onCycle, onFetches, onLevels, onLocate, onEvent, onDecoded, stepOf}
 use Rattle.bench.specs.declared.step.Bench.{Bench}
-use Rattle.bench.specs.declared.step.Stepped.{Stepped}
-
--- answered with the kind as it came and refusal number 0
-abbrev pub Done : ℕ → Stepped → Type 0
-Done kind s = (s .answer .kind ≡ kind) × (s .answer .refusal ≡ 0)
 
 module _ (b : Bench) (kind : ℕ) where
   pub decoded-first : (hi lo value : ℕ) → stepOf b kind hi lo value ≡ onDecoded b kind (decodeOf kind hi lo value)
@@ -50,23 +46,23 @@ module _ (b : Bench) (kind : ℕ) where
   on-controller-reset = refl
 
   -- those of the multiplexer are done
-  pub multiplexer-reset-done : Done kind (onDecoded b kind (Known (Reset true)))
+  pub multiplexer-reset-done : Done kind (onDecoded b kind (Known (Reset true)) .answer)
   unfolding onDecoded onEvent onReset if_then_else_
   multiplexer-reset-done = (refl, refl)
 
-  pub cycle-done : (address : ℕ) (read : Bool) → Done kind (onDecoded b kind (Known (Cycle address read)))
+  pub cycle-done : (address : ℕ) (read : Bool) → Done kind (onDecoded b kind (Known (Cycle address read)) .answer)
   unfolding onDecoded onEvent onCycle
   cycle-done address read = (refl, refl)
 
-  pub fetches-done : (n : ℕ) → Done kind (onDecoded b kind (Known (Fetches n)))
+  pub fetches-done : (n : ℕ) → Done kind (onDecoded b kind (Known (Fetches n)) .answer)
   unfolding onDecoded onEvent onFetches
   fetches-done n = (refl, refl)
 
-  pub levels-done : (hs da0 : Bool) → Done kind (onDecoded b kind (Known (Levels hs da0)))
+  pub levels-done : (hs da0 : Bool) → Done kind (onDecoded b kind (Known (Levels hs da0)) .answer)
   unfolding onDecoded onEvent onLevels
   levels-done hs da0 = (refl, refl)
 
-  -- what locates asks, and moves neither chip
+  -- an event that locates asks, and moves neither chip
   pub on-locate : onDecoded b kind (Known Locate) ≡ record { bench = b; answer = locatedAnswerOf kind (locateOf (b .controller)) }
   unfolding onDecoded onEvent onLocate
   on-locate = refl

@@ -1,6 +1,6 @@
 -- n character times of the controller are a walk of n: no step reads what the step before it left. Assumes nothing.
 use Prim.Native.Nat.{ℕ, zero, suc, _-_}
-use mathlib.Core.Path.{_≡_, refl, sym, ap, _∙_}
+use mathlib.Core.Path.{_≡_, sym, ap, _∙_}
 use native.Mathlib.Omega.{arith}
 use Rattle.basics.specs.Iterate.{iterate}
 use Rattle.clocks.specs.declared.place.Place.{Place}

@@ -11,7 +11,6 @@ use Rattle.pen.specs.Pen.{noPen, struckOf}
 use Rattle.controller.specs.Chip.{strikeAt}
 use Rattle.controller.specs.Reads.{readOf}
 use Rattle.controller.specs.declared.chip.Controller.{Controller}
-use Rattle.pen.specs.declared.pen.Pen.{Pen}
 use Rattle.controller.proofs.Reading.{after-read}
 
 -- what every character time keeps, a clock of any number keeps

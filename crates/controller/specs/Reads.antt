@@ -1,6 +1,6 @@
 -- Register reads (document 01, "Controller registers"; kind 2 of the table of kinds).
 use Prim.Native.Nat.{ℕ, _+_, _*_}
-use mathlib.Core.Bool.{Bool, true, false, not, _||_}
+use mathlib.Core.Bool.{Bool, true, not, _||_}
 use lib.Dec.{eqb, leb}
 use Rattle.basics.specs.Choice.{if_then_else_}
 use Rattle.basics.specs.Bits.{num, highOf, lowOf}

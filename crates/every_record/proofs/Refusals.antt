@@ -4,6 +4,7 @@ use mathlib.Core.Path.{_≡_, refl, sym, ap, _∙_}
 use mathlib.Core.Bool.{true, false}
 use Rattle.answer.specs.Answer.{plainOf}
 use Rattle.answer.specs.declared.Answer.{Answer}
+use Rattle.answer.proofs.Done.{Done}
 use Rattle.locator.specs.Locate.{refusalOf, locateOf}
 use Rattle.locator.specs.declared.answer.Located.{Located}
 use Rattle.record.specs.Decode.{decodeOf, numberOf}
@@ -14,10 +15,10 @@ use Rattle.bodies.specs.Bodies.{locatedAnswerOf}
 use Rattle.bodies.proofs.Located.{located-refused}
 use Rattle.alone.proofs.Done.{write-done, read-done, clocks-done, strike-done, reset-done}
 use Rattle.bench.specs.Step.{onDecoded, stepOf}
-use Rattle.bench.proofs.Steps.{Done, decoded-first, on-refused, on-write, on-read, on-clocks, on-strike, on-controller-reset, multiplexer-reset-done, cycle-done, fetches-done, levels-done, on-locate}
-use Rattle.every_record.specs.Refusals.{eventRefusalOf, Refusals}
+use Rattle.bench.proofs.Steps.{decoded-first, on-refused, on-write, on-read, on-clocks, on-strike, on-controller-reset, multiplexer-reset-done, cycle-done, fetches-done, levels-done, on-locate}
 use Rattle.bench.specs.declared.step.Bench.{Bench}
 use Rattle.bench.specs.declared.step.Stepped.{Stepped}
+use Rattle.every_record.specs.Refusals.{eventRefusalOf, Refusals}
 
 -- the refusal number of a decoded record
 abbrev numberDue : Bench → Decoded → ℕ
@@ -31,7 +32,7 @@ module _ (b : Bench) (kind : ℕ) where
     pub told : s .answer .refusal ≡ number
     pub still : (number ≡ 0 → ⊥) → s ≡ record { bench = b; answer = plainOf kind number }
 
-  done : (s : Stepped) → Done kind s → Due 0 s
+  done : (s : Stepped) → Done kind (s .answer) → Due 0 s
   done s k = record { first = k .0; told = k .1; still = λ h. absurd (h refl) }
 
   refused : (number : ℕ) → Due number (record { bench = b; answer = plainOf kind number })

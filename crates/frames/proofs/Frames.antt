@@ -14,7 +14,7 @@ use Rattle.basics.specs.Choice.{if_then_else_}
 use Rattle.basics.specs.Iterate.{iterate}
 use Rattle.basics.proofs.Iterating.{iterate-add}
 use Rattle.basics.proofs.Tests.{lt-or-ge}
-use Rattle.raster.specs.Scan.{Move, topOf, moveOf, nextOf}
+use Rattle.raster.specs.Scan.{Move, topOf, nextOf}
 use Rattle.raster.specs.Widths.{RegistersWithin}
 use Rattle.raster.specs.declared.registers.Registers.{Registers}
 use Rattle.raster.specs.declared.scan.Scan.{Scan}

@@ -1,11 +1,10 @@
 -- Laws of listings. Assumes nothing.
-use Prim.Native.Nat.{ℕ, _+_, _-_, _*_, _≤_, _<_}
-use mathlib.Core.Path.{_≡_, refl, ap, _∙_}
+use Prim.Native.Nat.{ℕ, _+_, _*_, _≤_}
+use mathlib.Core.Path.{_≡_, ap}
 use mathlib.Core.Bool.{Bool, true, false}
 use mathlib.Core.List.{List, [], _∷_, _++_}
 use native.Mathlib.Omega.{arith}
 use lib.ListN.{length, drop, length-append}
-use Rattle.basics.specs.Choice.{if_then_else_}
 use Rattle.basics.specs.Lay.{laidAt, Writes}
 use Rattle.basics.proofs.Laying.{laid-front, then-writes}
 use Rattle.basics.proofs.Cases.{if-both}
@@ -16,7 +15,7 @@ use Rattle.text.specs.Lines.{rowsOf}
 use Rattle.text.specs.Speech.{tooLong}
 use Rattle.text.proofs.Hexing.{length-hex}
 use Rattle.text.proofs.Lining.{rows-none, rows-first}
-use Rattle.replay.specs.Run.{Run, writtenOf, returnedOf}
+use Rattle.replay.specs.Run.{writtenOf, returnedOf}
 use Rattle.replay.specs.declared.run.Replayed.{Replayed}
 use Rattle.replay.proofs.Replaying.{written-first}
 use Rattle.batch.specs.Fresh.{mostOutput, freshRunOf}

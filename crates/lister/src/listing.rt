@@ -15,7 +15,7 @@ use batch::replay_fresh;
 // The longest input that is listed.
 pub const INPUT: usize = batch::MOST;
 
-// The longest listing: the line of every answer, and the ending.
+// The room of a listing: for every answer a line as long as a line can be, and the ending.
 pub const TEXT: usize = MARKED * batch::ANSWERS + END;
 
 // The listing of a batch, on fresh chips and with room for every answer.
@@ -28,9 +28,9 @@ fn batch_listing(text: &mut [u8], batch: &[u8]) -> usize
     end_line(text, p, replayed.ending)
 }
 
-// The text for an input, laid at the front; how long it is.
+// The text for an input, laid at the front; how long it is. The buffer lent is as long as its definition says, to the byte.
 pub fn list(input: &[u8], text: &mut [u8; TEXT]) -> usize
-    ensures room { λ n. ⌜ length (now (text .entry)) ≡ listingLength ⌝ }
+    ensures lent { λ n. ⌜ length (now (text .entry)) ≡ listingLength ⌝ }
     ensures long { λ n. ⌜ n ≡ length (listingOf (now (input .entry))) ⌝ }
     ensures laid { λ n. ⌜ now (text .exit) ≡ laidAt (now (text .entry)) 0 (listingOf (now (input .entry))) ⌝ }
     ensures part { λ n. ⌜ Counts n (now (text .exit)) ⌝ }

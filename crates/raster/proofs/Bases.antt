@@ -1,5 +1,5 @@
 -- The address that a row begins with, from one row to the next. Assumes nothing.
-use Prim.Native.Nat.{ℕ, suc, _+_, _*_, _%_}
+use Prim.Native.Nat.{ℕ, suc}
 use mathlib.Core.Path.{_≡_}
 use native.Mathlib.Nat.{suc-mul}
 use native.Mathlib.Omega.{arith}

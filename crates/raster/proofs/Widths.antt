@@ -1,6 +1,5 @@
 -- A character time keeps scan and sync counts within their widths. Assumes nothing.
 use Prim.Native.Nat.{ℕ, _<_, _≤_}
-use mathlib.Core.Path.{_≡_, refl}
 use native.Mathlib.Omega.{arith}
 use Rattle.basics.proofs.Cases.{if-both}
 use Rattle.raster.specs.Registers.{startOf}

@@ -17,7 +17,7 @@ use Rattle.replay.specs.private.Step.{stepAt}
 use Rattle.replay.specs.declared.run.Replayed.{Replayed}
 use Rattle.replay.proofs.Runs.{onto-none, onto-onto, run-none, run-short, run-full, run-more}
 
--- eight bytes for each answer, and one answer more
+-- eight bytes for each answer; the first answer, and one answer more
 pub length-written : (l : List Answer) → length (writtenOf l) ≡ 8 * length l
 unfolding writtenOf
 length-written [] = refl

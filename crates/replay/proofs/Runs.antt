@@ -1,4 +1,5 @@
--- A run, one record at a time: what stands before a further run, and a record that has no room or has some. Assumes nothing.
+-- A run, one record at a time: what a replay returns and writes, what stands before a further run, a batch of too few bytes, and a record
+-- that has no room or has some. Assumes nothing.
 use Prim.Native.Nat.{ℕ, _+_, _-_, _≤_, _<_}
 use mathlib.Core.Path.{_≡_, refl}
 use mathlib.Core.List.{List, [], _∷_, _++_, append-assoc}

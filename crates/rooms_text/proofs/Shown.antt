@@ -1,7 +1,7 @@
 -- Laws of the text of `rooms`. Assumes nothing.
-use Prim.Native.Nat.{ℕ, _+_, _-_, _*_, _≤_}
-use mathlib.Core.Path.{_≡_, refl, sym, ap, _∙_}
-use mathlib.Core.List.{List, _++_}
+use Prim.Native.Nat.{ℕ, _+_, _-_, _≤_}
+use mathlib.Core.Path.{_≡_, refl, ap, _∙_}
+use mathlib.Core.List.{List}
 use native.Mathlib.Omega.{arith}
 use lib.Dec.{ltb}
 use lib.ListN.{length, take, drop, getD, replicate, length-append, length-replicate, replicate-append-replicate}
@@ -14,12 +14,11 @@ use Rattle.basics.proofs.Cases.{if-both}
 use Rattle.replay.specs.Run.{writtenOf, returnedOf}
 use Rattle.replay.specs.declared.run.Replayed.{Replayed}
 use Rattle.replay.proofs.Replaying.{length-written}
-use Rattle.batch.specs.Fresh.{mostBytes, mostOutput, freshRunOf}
+use Rattle.batch.specs.Fresh.{mostOutput, freshRunOf}
 use Rattle.batch.proofs.Ran.{answers-have-room}
 use Rattle.text.specs.Lines.{linesOf}
-use Rattle.text.specs.Speech.{tooLong}
 use Rattle.text.proofs.Lining.{length-lines}
-use Rattle.rooms_text.specs.Rooms.{roomOf, countsOf, ranTextOf, shownOf, noRoom, headBytes, roomTextOf}
+use Rattle.rooms_text.specs.Rooms.{roomOf, countsOf, ranTextOf, shownOf, headBytes, roomTextOf}
 use Rattle.rooms_text.specs.Lengths.{roomTextLength}
 
 -- the counts and then the whole output, of what a replay gave

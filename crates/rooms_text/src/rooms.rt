@@ -70,9 +70,9 @@ fn shown(text: &mut [u8], batch: &[u8], out: &mut [u8]) -> usize
     put_lines(text, p, out)
 }
 
-// The text for an input, laid at the front; how long it is.
+// The text for an input, laid at the front; how long it is. The buffer lent is as long as its definition says, to the byte.
 pub fn room(input: &[u8], text: &mut [u8; TEXT]) -> usize
-    ensures room { λ n. ⌜ length (now (text .entry)) ≡ roomTextLength ⌝ }
+    ensures lent { λ n. ⌜ length (now (text .entry)) ≡ roomTextLength ⌝ }
     ensures long { λ n. ⌜ n ≡ length (roomTextOf (now (input .entry))) ⌝ }
     ensures laid { λ n. ⌜ now (text .exit) ≡ laidAt (now (text .entry)) 0 (roomTextOf (now (input .entry))) ⌝ }
     ensures part { λ n. ⌜ Counts n (now (text .exit)) ⌝ }

@@ -2,7 +2,7 @@
 use Prim.Native.Nat.{ℕ, zero, suc, _+_, _-_, _*_, _≤_, _<_, min}
 use mathlib.Core.Path.{_≡_, refl, sym, ap, _∙_}
 use mathlib.Core.Logic.{⊎-elim}
-use mathlib.Core.List.{List, [], _∷_, _++_, append-assoc, append-nil}
+use mathlib.Core.List.{List, [], _++_, append-assoc, append-nil}
 use native.Mathlib.Numerals.{add-one}
 use native.Mathlib.Omega.{arith}
 use lib.ListN.{length, take, drop, length-append, length-take, length-drop}
@@ -10,7 +10,6 @@ use lib.Seq.{drop-drop, take-all}
 use Rattle.basics.specs.Lay.{Writes}
 use Rattle.basics.proofs.Laying.{then-writes}
 use Rattle.basics.proofs.Tests.{lt-or-ge}
-use Rattle.text.specs.Hex.{hexOf}
 use Rattle.text.specs.Lines.{perLine, lineOf, rowsOf, lineCount, linesOf}
 use Rattle.text.proofs.Hexing.{length-hex}
 

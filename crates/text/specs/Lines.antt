@@ -1,5 +1,5 @@
 -- Bytes on lines, eight to a line, as hex digits (document 01, "Records and what comes back", the listing program).
-use Prim.Native.Nat.{ℕ, zero, suc, _+_, _-_, _*_, _/_}
+use Prim.Native.Nat.{ℕ, zero, suc, _+_, _-_, _/_}
 use mathlib.Core.List.{List, [], _∷_, _++_}
 use lib.ListN.{length, take, drop}
 use Rattle.text.specs.Hex.{hexOf}

@@ -1,4 +1,3 @@
-use mathlib.Core.Path.{_∙_}
 use borrow.Author.Needs.{needs}
 use Rattle.locator.specs.Cells.{cellLatchOf, fitsOf}
 use Rattle.locator.proofs.cells.cell_fits.Statement.{statement}

@@ -1,4 +1,3 @@
-use mathlib.Core.Path.{_∙_}
 use borrow.Author.Needs.{needs}
 use Rattle.locator.proofs.cells.cell_scan.Statement.{statement}
 use Rattle.locator.proofs.cells.cell_scan.Tie as tie
