@@ -4,10 +4,9 @@ so that any batch of any run can be made again."""
 import random
 from typing import NamedTuple
 
+from records import ANSWER_BYTES, GREATEST_FIELDS, MOST_BATCH_BYTES, RECORD_BYTES, counted, joined, record
 from . import controller, corners, multiplexer
-from .records import GREATEST_FIELDS, MOST_BATCH_BYTES, RECORD_BYTES, counted, joined, record
 
-ANSWER_BYTES = 8
 MOST_ROOM = 8192
 
 

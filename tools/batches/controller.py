@@ -1,7 +1,7 @@
 """Batches for the controller: pictures, the pen and the locator. A batch is made from the random
 numbers that it is given and from nothing else."""
 
-from .records import (
+from records import (
     clocks, get, joined, locate, put, reset_controller, status, strike,
 )
 

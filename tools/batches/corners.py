@@ -1,11 +1,11 @@
 """Batches for corners that other batches come to too seldom: the greatest counts, a pulse that is
 loaded anew while it runs, late pins after a write, and a cursor in rows of many lines."""
 
+from records import clocks, fetches, joined, put, reset_controller
 from .controller import (
     cell_address, line_length, picture_size, small_setting, strike_and_look, to_cell, written,
 )
 from .multiplexer import MODE_BITS, control_number
-from .records import clocks, fetches, joined, put, reset_controller
 
 MOST = 65535  # that a record can count
 COUNTS = (MOST, MOST, MOST, 65534, 32768, 32767, 256, 255)  # at which a count could turn over

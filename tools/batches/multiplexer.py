@@ -1,10 +1,8 @@
 """Batches for the multiplexer: control bits, bus cycles, display fetches, levels and refresh."""
 
-from .records import bus, fetches, joined, levels, reset_multiplexer
+from records import CONTROL_BITS, bus, control, fetches, joined, levels, reset_multiplexer
 
-CONTROL = 0xFFC0
-CONTROL_BITS = 16
-# Control bits by their place: V0 V1 V2 F0 .. F6 P R0 R1 M0 M1 TY.
+# Control bits by their place.
 MODE_BITS = (0, 1, 2)
 FIELD_BITS = tuple(range(3, 10))
 RATE_BITS = (11, 12)
@@ -15,11 +13,6 @@ BORDERS = (
     0x0000, 0x1000, 0x2000, 0x4000, 0x8000, 0xA000, 0xC000, 0xFF00, 0xFF20, 0xFF40,
     0xFF60, 0xFF80, 0xFFA0, 0xFFC0, 0xFFE0, 0x10000,
 )
-
-
-def control(bit, value):
-    """The write that sets or clears one control bit."""
-    return bus(CONTROL + 2 * bit + value, 0)
 
 
 def control_number(bits, number):
@@ -64,7 +57,7 @@ def bus_work(rng):
     """Control bits of every sort set and cleared, each time followed by cycles in all regions."""
     parts = []
     for _ in range(rng.randint(4, 12)):
-        parts.append(control(rng.randrange(CONTROL_BITS), rng.randrange(2)))
+        parts.append(control(rng.randrange(len(CONTROL_BITS)), rng.randrange(2)))
         parts.append(control_number(ROUTING_BITS, rng.randrange(64)))
         parts.append(all_regions(rng))
         parts += [bus(some_address(rng), rng.randrange(2)) for _ in range(rng.randint(0, 8))]

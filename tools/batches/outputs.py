@@ -3,22 +3,10 @@
 import collections
 import re
 
+from records import ENDINGS, KIND_NAMES, RECORD_BYTES, REFUSAL_NAMES, records_of
 from . import SORT_NAMES
-from .records import KIND_NAMES, RECORD_BYTES
 
 ENOUGH = 10  # times that a whole run has to see each kind and each refusal; any seeds give far more
-REFUSAL_NAMES = {
-    0: "done",
-    1: "kind is 0 or above 9",
-    2: "a field not allowed",
-    3: "1 to 3 bytes remain",
-    4: "fewer than 8 output bytes remain",
-    5: "locate: no strike since reset",
-    6: "locate: strike outside the picture",
-    7: "locate: no cell fits",
-    8: "locate: two or more cells fit",
-}
-ENDINGS = (0, 3, 4)
 ONLY_WORDS = ("too long", "no room")
 LISTING = re.compile(r"(?:[0-9a-f]{16}(?: odd)?\n)*end [034]\n")
 ROOM = re.compile(r"(?:[0-9a-f]{16}\n)+(?:(?:[0-9a-f]{2}){1,7}\n)?")
@@ -97,8 +85,7 @@ class Tally:
 
 def grouped(batch):
     """The batch in hex, a record to a group; tools/unhex reads it."""
-    groups = [batch.records[at:at + RECORD_BYTES].hex()
-              for at in range(0, len(batch.records), RECORD_BYTES)]
+    groups = [one.hex() for one in records_of(batch.records)]
     lines = [" ".join(groups[at:at + RECORDS_PER_LINE]) for at in range(0, len(groups), RECORDS_PER_LINE)]
     return "\n".join(f"  {line}" for line in lines) or "  (no byte)"
 

@@ -20,6 +20,19 @@ def listed(top):
     return names, wrong
 
 
+def needed(top, names):
+    """The named crates and all that they stand on, in the order of crates.txt; what is not listed there, as the kit's own, is left out."""
+    lines = (LINE.fullmatch(line.rstrip()) for line in (top / "crates.txt").read_text().splitlines())
+    below = {match.group(1): match.group(2).split() for match in lines if match}
+    wanted, found = list(names), set()
+    while wanted:
+        name = wanted.pop()
+        if name in below and name not in found:
+            found.add(name)
+            wanted += below[name]
+    return [name for name in below if name in found]
+
+
 def folders(top):
     """The names of the folders in crates/."""
     return sorted(path.name for path in (top / "crates").iterdir() if path.is_dir())

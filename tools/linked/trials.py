@@ -2,9 +2,9 @@
 import random
 
 from batches import controller
-from batches.multiplexer import CONTROL_BITS, MODE_BITS, RATE_BITS, SIZE_BITS, control, control_number
-from batches.records import (
-    clocks, fetches, get, joined, locate, put, reset_controller, reset_multiplexer, status, strike,
+from batches.multiplexer import MODE_BITS, RATE_BITS, SIZE_BITS, control_number
+from records import (
+    CONTROL_BITS, clocks, control, fetches, get, joined, locate, put, reset_controller, reset_multiplexer, status, strike,
 )
 
 SEED = 6545
@@ -68,7 +68,7 @@ def any_control(rng):
     """Control bits of every sort set and cleared between fetches, and resets."""
     parts = []
     for _ in range(300):
-        parts.append(control(rng.randrange(CONTROL_BITS), rng.randrange(2)))
+        parts.append(control(rng.randrange(len(CONTROL_BITS)), rng.randrange(2)))
         parts.append(fetches(rng.choice((0, 1, 8, 16, rng.randint(1, 400), rng.randrange(65536)))))
         if rng.randrange(25) == 0:
             parts.append(reset_multiplexer())

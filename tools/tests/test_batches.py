@@ -2,7 +2,7 @@
 import unittest
 
 from batches import DEAL, SHARES, make_batch
-from batches.records import clocks, fetches
+from records import clocks, fetches
 from batches.seeds import FIXED_SEED, OF_COMMIT, WHOLE_RUN, seeds_of, share
 
 COMMIT = "0000199101234567" + 24 * "f"

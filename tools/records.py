@@ -1,4 +1,4 @@
-"""The nine kinds of record, each by a name, and what a batch may hold."""
+"""The nine kinds of record, each by a name, what a batch may hold, and the numbers of refusals and endings."""
 
 RECORD_BYTES = 4
 MOST_BATCH_BYTES = 4096
@@ -25,6 +25,22 @@ GREATEST_FIELDS = {
     8: (0, 1, 1),
     9: (0, 0, 0),
 }
+ANSWER_BYTES = 8
+REFUSAL_NAMES = {
+    0: "done",
+    1: "kind is 0 or above 9",
+    2: "a field not allowed",
+    3: "1 to 3 bytes remain",
+    4: "fewer than 8 output bytes remain",
+    5: "locate: no strike since reset",
+    6: "locate: strike outside the picture",
+    7: "locate: no cell fits",
+    8: "locate: two or more cells fit",
+}
+ENDINGS = (0, 3, 4)
+# The multiplexer's control bits in their order; each has two addresses from CONTROL on.
+CONTROL = 0xFFC0
+CONTROL_BITS = ("V0", "V1", "V2", "F0", "F1", "F2", "F3", "F4", "F5", "F6", "P", "R0", "R1", "M0", "M1", "TY")
 
 
 def record(kind, high=0, low=0, data=0):
@@ -42,14 +58,24 @@ def select(register):
     return record(1, 0, 0, register)
 
 
+def write(value):
+    """Writes the register that is named."""
+    return record(1, 0, 1, value)
+
+
+def read():
+    """Reads the register that is named."""
+    return record(2, 0, 1)
+
+
 def put(register, value):
     """Names a register and writes it: two records."""
-    return select(register) + record(1, 0, 1, value)
+    return select(register) + write(value)
 
 
 def get(register):
     """Names a register and reads it: two records."""
-    return select(register) + record(2, 0, 1)
+    return select(register) + read()
 
 
 def status():
@@ -82,6 +108,11 @@ def bus(address, read):
     return counted(6, address, read)
 
 
+def control(bit, value):
+    """The bus write that sets or clears one control bit, by its place."""
+    return bus(CONTROL + 2 * bit + value, 0)
+
+
 def fetches(number):
     """That many display fetches."""
     return counted(7, number)
@@ -95,6 +126,17 @@ def levels(hs, da0):
 def locate():
     """Asks for the cell of the last strike."""
     return record(9)
+
+
+def records_of(batch):
+    """The records of a batch, four bytes each; the last may be shorter."""
+    return [batch[at:at + RECORD_BYTES] for at in range(0, len(batch), RECORD_BYTES)]
+
+
+def is_allowed(one):
+    """Whether a record is whole, of a known kind, and has fields that its kind allows."""
+    most = GREATEST_FIELDS.get(one[0]) if len(one) == RECORD_BYTES else None
+    return most is not None and all(field <= limit for field, limit in zip(one[1:], most))
 
 
 def joined(parts):

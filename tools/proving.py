@@ -1,0 +1,113 @@
+"""Has rt prove and build programs, and tells what is being proved and how far it is."""
+import contextlib
+import fcntl
+import queue
+import re
+import subprocess
+import threading
+import time
+
+from checks.crates import needed
+from commands import TOP, CannotRun, need
+from progress import Progress
+
+BINARIES = TOP / "target" / "bin"
+LOGS = TOP / "target" / "log"
+PROVED = re.compile(r"rt: (\S+) proved \((\d+ s)?")
+A_MOMENT = 1.0  # seconds; what is proved already takes less, and then nothing is told
+LINES_SHOWN = 40  # of what rt said, where it failed
+
+
+class Proving:
+    """How far one run of rt is."""
+
+    def __init__(self, names):
+        self.wanted = needed(TOP, names)
+        self.begun = time.time()
+        self.proved = []
+        self.said = []
+
+    def hear(self, line):
+        """Takes a line of rt's. Gives whether it tells of a crate that was proved in this run."""
+        self.said.append(line)
+        match = PROVED.match(line)
+        if not match:
+            return False
+        self.proved.append(match.group(1))
+        return bool(match.group(2))
+
+    def under_way(self):
+        """The crates that rt has begun in this run and not told of yet."""
+        def begun(name):
+            with contextlib.suppress(OSError):
+                return (LOGS / f"{name}.out").stat().st_mtime >= self.begun
+            return False
+        return [name for name in self.wanted if name not in self.proved and begun(name)]
+
+    def told(self):
+        """How far it is, in words."""
+        words = f"{len(self.proved)} of {len(self.wanted)} crates proved, {time.time() - self.begun:.0f} s"
+        names = ", ".join(self.under_way())
+        return f"{words}; now {names}" if names else words
+
+
+@contextlib.contextmanager
+def in_turn(progress):
+    """One run of rt at a time in this repository; another one is waited for."""
+    with open(TOP / "crates.txt", "rb") as file:
+        try:
+            fcntl.flock(file, fcntl.LOCK_EX | fcntl.LOCK_NB)
+        except BlockingIOError:
+            progress.say("another run is proving here; waiting for it")
+            fcntl.flock(file, fcntl.LOCK_EX)
+        yield
+
+
+def lines_of(process):
+    """The lines that a process prints as they come, and None whenever none has come for a while."""
+    lines = queue.Queue()
+
+    def hand_on():
+        """Reads until the end, which is told by an empty line."""
+        for line in process.stdout:
+            lines.put(line)
+        lines.put("")
+
+    threading.Thread(target=hand_on, daemon=True).start()
+    while True:
+        try:
+            line = lines.get(timeout=A_MOMENT)
+        except queue.Empty:
+            yield None
+            continue
+        if not line:
+            return
+        yield line
+
+
+def follow(process, proving, progress, names):
+    """Hears all that rt says, and tells how far it is once that takes longer than a moment."""
+    announced = False
+    for line in lines_of(process):
+        proved_now = line is not None and proving.hear(line.rstrip("\n"))
+        if not announced and (proved_now or line is None):
+            announced = True
+            progress.say(f"proving and building {' and '.join(names)}; where nothing is proved yet, that takes some minutes")
+        if proved_now or (line is None and progress.rewrites):
+            progress.show(proving.told())
+    progress.end()
+
+
+def prove(who, names):
+    """Proves and builds programs, with all that they stand on. who is the tool that asks for it."""
+    need("rt")
+    progress = Progress(who)
+    with in_turn(progress):
+        proving = Proving(names)
+        with subprocess.Popen(["rt", "check", *names], cwd=TOP, stdin=subprocess.DEVNULL, stdout=subprocess.PIPE,
+                              stderr=subprocess.STDOUT, text=True, errors="replace") as process:
+            follow(process, proving, progress, names)
+    missing = [name for name in names if not (BINARIES / name).is_file()]
+    if process.returncode or missing:
+        told = "\n".join(proving.said[-LINES_SHOWN:])
+        raise CannotRun(f"'rt check {' '.join(names)}' failed, saying:\n{told}")
