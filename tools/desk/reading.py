@@ -1,0 +1,199 @@
+"""Words to records. A statement is one form of the table FORMS; each gives the bytes of one record, or of two."""
+import difflib
+import re
+from typing import Callable, NamedTuple
+
+import records
+from records import CONTROL_BITS
+from .hextext import NotHex, bytes_of_words
+from .terminal import shortened
+from .vocabulary import REGISTER_NUMBERS
+
+BYTE, COUNT, LEVEL = 255, 65535, 1  # the greatest values
+MOST_DIGITS = 8  # that any number in range has
+SEPARATOR = ";"
+BITS = "V0 V1 V2 F0 to F6 P R0 R1 M0 M1 TY"
+
+
+class NotWords(Exception):
+    """A statement that is none of the forms; says what was expected."""
+
+
+class Form(NamedTuple):
+    """One form of statement: how it is written, what it means, and how the words behind its first one become bytes."""
+
+    shape: str
+    meaning: str
+    read: Callable
+
+    @property
+    def first(self):
+        """The word by which it is known."""
+        return self.shape.split()[0]
+
+
+def number(word, most, what):
+    """A number from 0 to most, decimal or with $ in hex."""
+    limits = f"0 to {most}" + (f", or $0 to ${most:X} in hex" if most > LEVEL else "")
+    if not re.fullmatch(r"[0-9]+|\$[0-9A-Fa-f]+", word):
+        raise NotWords(f"'{shortened(word)}' is not a number; {what} is one from {limits}")
+    digits = word.lstrip("$").lstrip("0") or "0"
+    value = int(digits, 16 if word.startswith("$") else 10) if len(digits) <= MOST_DIGITS else most + 1
+    if value > most:
+        raise NotWords(f"{shortened(word)} is too large; {what} goes from {limits}")
+    return value
+
+
+def register(word):
+    """The number of a register that is named R0 to R31."""
+    match = re.fullmatch(r"[Rr]([0-9]{1,2})", word)
+    if not match or int(match.group(1)) >= REGISTER_NUMBERS:
+        raise NotWords(f"'{shortened(word)}' is no register; they are R0 to R{REGISTER_NUMBERS - 1}")
+    return int(match.group(1))
+
+
+def is_register(word):
+    """Whether a word looks like a register's name."""
+    return re.fullmatch(r"[Rr][0-9]+", word) is not None
+
+
+def taken(words, count, shape):
+    """The words behind the first, which are to be so many."""
+    if len(words) != count:
+        raise NotWords(f"expected '{shape}'")
+    return words
+
+
+def assign(words):
+    """The register, '=' and its value."""
+    if len(words) != 3 or words[1] != "=":
+        raise NotWords(f"expected '{shortened(words[0])} = ' and a value")
+    return records.put(register(words[0]), number(words[2], BYTE, "a register's value"))
+
+
+def select(words):
+    """By the register's name, or by any byte."""
+    word, = taken(words, 1, "select R16")
+    return records.select(register(word) if is_register(word) else number(word, BYTE, "what names a register"))
+
+
+def write(words):
+    """To the register that is named."""
+    word, = taken(words, 1, "write 63")
+    return records.write(number(word, BYTE, "a register's value"))
+
+
+def read(words):
+    """From the register that is named, or from one that is named here."""
+    if not words:
+        return records.read()
+    word, = taken(words, 1, "read' or 'read R16")
+    return records.get(register(word))
+
+
+def clock(words):
+    """Character clocks."""
+    word, = taken(words, 1, "clock 20")
+    return records.clocks(number(word, COUNT, "the number of clocks"))
+
+
+def fetch(words):
+    """Display fetches."""
+    word, = taken(words, 1, "fetch 32")
+    return records.fetches(number(word, COUNT, "the number of fetches"))
+
+
+def reset(words):
+    """Of either chip."""
+    chips = {"controller": records.reset_controller, "multiplexer": records.reset_multiplexer}
+    chip = " ".join(words).lower()
+    if chip not in chips:
+        raise NotWords("expected 'reset controller' or 'reset multiplexer'")
+    return chips[chip]()
+
+
+def bus(words):
+    """A bus cycle."""
+    way, address = taken(words, 2, "bus read $A000' or 'bus write $A000")
+    if way.lower() not in ("read", "write"):
+        raise NotWords(f"a bus cycle is a 'bus read' or a 'bus write', not a 'bus {shortened(way)}'")
+    return records.bus(number(address, COUNT, "an address"), int(way.lower() == "read"))
+
+
+def control(words, value, shape):
+    """The bus write that sets or clears a control bit."""
+    word, = taken(words, 1, shape)
+    if word.upper() not in CONTROL_BITS:
+        raise NotWords(f"'{shortened(word)}' is no control bit; they are {BITS}")
+    return records.control(CONTROL_BITS.index(word.upper()), value)
+
+
+def levels(words):
+    """Of HS and DA0."""
+    shape = "levels HS 0 DA0 1"
+    hs, first, da0, second = taken(words, 4, shape)
+    if (hs.upper(), da0.upper()) != ("HS", "DA0"):
+        raise NotWords(f"expected '{shape}'")
+    return records.levels(number(first, LEVEL, "the level of HS"), number(second, LEVEL, "the level of DA0"))
+
+
+def as_they_stand(words):
+    """Bytes in hex."""
+    try:
+        given = bytes_of_words(words)
+    except NotHex as problem:
+        raise NotWords(f"{problem}; expected bytes in hex, as 'bytes 0a 01 02 03'") from problem
+    if not given:
+        raise NotWords("expected bytes in hex, as 'bytes 0a 01 02 03'")
+    return given
+
+
+def alone(make, shape):
+    """How a word is read that nothing follows."""
+    return lambda words: make(*taken(words, 0, shape))
+
+
+FORMS = (
+    Form("R0 = 63", "name R0 and write 63 to it: two records", assign),
+    Form("select R16", "name a register", select),
+    Form("write 63", "write the register that is named", write),
+    Form("read", "read the register that is named; 'read R16' names it and reads it", read),
+    Form("status", "read the status, L and V", alone(records.status, "status")),
+    Form("clock 20", "20 character clocks; 'clock 0' moves nothing and shows where the controller is", clock),
+    Form("strike", "the light pen fires", alone(records.strike, "strike")),
+    Form("locate", "ask for the cell of the last strike", alone(records.locate, "locate")),
+    Form("reset controller", "also 'reset multiplexer'", reset),
+    Form("bus read $A000", "a bus cycle of the processor; also 'bus write $A000'", bus),
+    Form("set V0", f"the bus write that sets a control bit ({BITS})", lambda words: control(words, 1, "set V0")),
+    Form("clear TY", "the bus write that clears it", lambda words: control(words, 0, "clear TY")),
+    Form("fetch 32", "32 display fetches; 'fetch 0' is a look", fetch),
+    Form("levels HS 0 DA0 1", "the levels of HS and DA0", levels),
+    Form("bytes 0a 01 02 03", "bytes as they stand, in hex, for a record that is to be damaged", as_they_stand),
+)
+BY_FIRST_WORD = {form.first: form for form in FORMS if form.read is not assign}
+
+
+def guess(word):
+    """What somebody may have meant by a word that is none."""
+    close = difflib.get_close_matches(word.lower(), BY_FIRST_WORD, n=1)
+    if close:
+        return f"did you mean '{close[0]}'?"
+    return f"expected a register, as 'R0 = 63', or one of {', '.join(BY_FIRST_WORD)}"
+
+
+def read_statement(text):
+    """The bytes of one statement."""
+    words = text.replace("=", " = ").split()
+    if not words:
+        return b""
+    if is_register(words[0]):
+        return assign(words)
+    form = BY_FIRST_WORD.get(words[0].lower())
+    if form is None:
+        raise NotWords(f"there is no word '{shortened(words[0])}'; {guess(words[0])}")
+    return form.read(words[1:])
+
+
+def read_line(text):
+    """The bytes of a line's statements."""
+    return b"".join(read_statement(part) for part in text.split(SEPARATOR))

@@ -1,0 +1,62 @@
+"""Why a record was refused or a replay ended, and what to do about it."""
+from records import GREATEST_FIELDS, KIND_NAMES, MOST_BATCH_BYTES, RECORD_BYTES
+
+FIELDS = ("hi", "lo", "data")
+MOST_RECORDS = MOST_BATCH_BYTES // RECORD_BYTES
+
+REASONS = {
+    1: "there is no such kind",
+    2: "a field has a value that the kind does not allow",
+    5: "the pen has not fired since the controller was reset",
+    6: "the strike was outside the picture",
+    7: "no cell of the picture fits the latch",
+    8: "two or more cells of the picture fit the latch",
+}
+ADVICE = {
+    1: "Kinds are 1 to 9. If the records behind it are refused too, a byte is missing or too many somewhere before.",
+    2: "Mend the field that is named. If the records behind it are refused too, a byte is missing or too many somewhere before.",
+    5: "Put a strike between the reset and the locate; a reset forgets all strikes.",
+    6: "The latch is no position, though a cell may have that address: the pen fired in a blanked part. Look at the clock line before the "
+       "strike: 'picture' has to stand there. On the bench, see whether the pen picks up light from the border, or fires late.",
+    7: "The registers were written after the strike, so that no cell has its address now. Locate before you change R0, R1, R4, R6, R8, R12 "
+       "or R13, or let the pen fire again.",
+    8: "The pen cannot tell these cells apart: the picture has more cells than addresses, or its rows share some. Make the picture "
+       "smaller, or show the part that matters alone, and fire again.",
+}
+
+
+def named_limit(most):
+    """What a field may be, in words."""
+    return "0" if most == 0 else f"0 or {most}" if most == 1 else f"0 to {most}"
+
+
+def why_not_allowed(one):
+    """What is wrong with the bytes of a record that is not whole, of no known kind, or has a field that is not allowed."""
+    if len(one) < RECORD_BYTES:
+        return f"{len(one)} of a record's {RECORD_BYTES} bytes"
+    if one[0] not in KIND_NAMES:
+        return f"{one[0]} is no kind"
+    wrong = [f"{name} is {field} and has to be {named_limit(most)}"
+             for name, field, most in zip(FIELDS, one[1:], GREATEST_FIELDS[one[0]]) if field > most]
+    return f"{KIND_NAMES[one[0]]}: {', '.join(wrong)}"
+
+
+def reason(number):
+    """Why a record was refused."""
+    return REASONS.get(number, "for a reason that this desk does not know")
+
+
+def ending(number, rest):
+    """What a listing's last line says; rest is what follows the last whole record."""
+    if number == 0:
+        return "every record was answered"
+    if number == 3 and rest:
+        return (f"the last bytes, {rest.hex(' ')}, are {len(rest)} of a record's {RECORD_BYTES}: the file was cut, or a byte is missing "
+                "or too many somewhere before. What stands above is answered all the same.")
+    return "the replay ended before the batch did"
+
+
+def too_long(length):
+    """What `too long` says."""
+    return (f"the batch has {length:,} bytes; at most {MOST_BATCH_BYTES:,} are taken, {MOST_RECORDS:,} records. Cut it at a place "
+            "where you can begin each part with the setting: the chips start fresh in each run.")
