@@ -53,9 +53,9 @@ def c_compiler(kit):
     return ["gcc", "-O3", "-fPIC"]
 
 
-def compile_c(compiler, source, out, more=()):
+def compile_c(compiler, source, out):
     """One C file."""
-    quietly(compiler + ["-std=c99", "-Wall", "-Wextra", "-I", INCLUDE, *more, "-c", source, "-o", out])
+    quietly(compiler + ["-std=c99", "-Wall", "-Wextra", "-I", INCLUDE, "-c", source, "-o", out])
 
 
 def link(kit, program, objects, archive=ARCHIVE):

@@ -1,8 +1,7 @@
-"""Builds the measured program: the proved archive, the two plain sides, and the harness over them."""
-import collections
+"""Builds the measured program: the proved archive, the same rules in Rust, and the harness over both."""
 import re
 
-from commands import TOP, attempt
+from commands import TOP, CannotRun, attempt, need
 from kit import ARCHIVE, TARGET, c_compiler, compile_c, link, need_archive, prove_archive
 from .pages import on_pages
 from .progress import say
@@ -12,14 +11,11 @@ ROOM = TOP / "target" / "bench"
 RUST_WORDS = ["rustc", "--edition", "2021", "--crate-type", "lib", "-C", "opt-level=3", "-C", "panic=abort",
               "-C", "codegen-units=1", "-C", "relocation-model=pic"]
 
-# program: the path; rust, c: words on how each side was made; rust is None and lacks says why, where there is no Rust
-Built = collections.namedtuple("Built", "program rust c lacks")
 
-
-def version_of(words):
+def version_of(compiler):
     """The first line of what a compiler says of itself."""
-    well, said = attempt([words[0], "--version"])
-    return said.splitlines()[0].strip() if well and said else str(words[0])
+    well, said = attempt([compiler, "--version"])
+    return said.splitlines()[0].strip() if well and said else str(compiler)
 
 
 def retargeted(text):
@@ -44,27 +40,24 @@ def rust_through_clang(kit, source, out):
     text = ROOM / "plain.ll"
     well, said = attempt(RUST_WORDS + ["-C", "no-prepopulate-passes", "--emit", "llvm-ir", "-o", text, source])
     if not well:
-        return None, f"rustc refused {source.name}: {last_error(said)}"
+        raise CannotRun(f"rustc refused {source.name}: {last_error(said)}")
     text.write_text(retargeted(text.read_text()))
     clang = kit.toolchain / "bin" / "clang"
     well, said = attempt([clang, f"--target={TARGET}", "-O3", "-fPIC", "-ffunction-sections", "-Wno-override-module",
                           "-x", "ir", "-c", text, "-o", out])
     if not well:
-        return None, f"the kit's clang does not take what {version_of(RUST_WORDS)} writes: {last_error(said)}"
-    return f"{version_of(RUST_WORDS)}, opt-level 3, then the kit's {version_of([clang])} -O3 to x86-64", None
+        raise CannotRun(f"the kit's clang does not take what {version_of('rustc')} writes: {last_error(said)}")
+    return f"{version_of('rustc')}, opt-level 3, then the kit's {version_of(clang)} -O3 to x86-64"
 
 
 def compile_rust(kit, out):
-    """The Rust side. Gives how it was made, or None and why it could not be."""
+    """The Rust side. Gives how it was compiled."""
     source = SOURCES / "plain.rs"
-    well, said = attempt(["rustc", "--version"])
-    if not well:
-        return None, f"rustc is not there: {last_error(said)}"
     well, said = attempt(RUST_WORDS + ["--target", TARGET, "--emit", "obj", "-o", out, source])
     if well:
-        return f"{version_of(RUST_WORDS)}, opt-level 3", None
+        return f"{version_of('rustc')}, opt-level 3"
     if not kit.emulator:
-        return None, f"rustc refused {source.name}: {last_error(said)}"
+        raise CannotRun(f"rustc refused {source.name}: {last_error(said)}")
     return rust_through_clang(kit, source, out)
 
 
@@ -76,18 +69,16 @@ def on_own_pages(path):
 
 
 def build(kit, prove):
-    """All of it."""
+    """All of it, what takes long as late as may be. Gives the program, and how its Rust side was compiled."""
+    need("rustc")
+    say("compiling the Rust side and the harness")
+    ROOM.mkdir(parents=True, exist_ok=True)
+    harness, rust, program = (ROOM / name for name in ("harness.o", "plain.o", "program"))
+    made = compile_rust(kit, rust)
+    compile_c(c_compiler(kit), SOURCES / "harness.c", harness)
     if prove:
         say("proving and building crates/exports (minutes where nothing is proved yet)")
         prove_archive()
     need_archive("tools/bench")
-    say("compiling the plain sides")
-    ROOM.mkdir(parents=True, exist_ok=True)
-    harness, plain, rust, program = (ROOM / name for name in ("harness.o", "plain-c.o", "plain-rust.o", "program"))
-    made, lacks = compile_rust(kit, rust)
-    compiler = c_compiler(kit)
-    compile_c(compiler, SOURCES / "plain.c", plain, ["-ffunction-sections"])
-    compile_c(compiler, SOURCES / "harness.c", harness, [] if made else ["-DNO_RUST"])
-    sides = [on_own_pages(side) for side in [plain, *([rust] if made else []), ARCHIVE]]
-    link(kit, program, [harness, *sides[:-1]], sides[-1])
-    return Built(program, made, f"{version_of(compiler)}, -O3", lacks)
+    link(kit, program, [harness, on_own_pages(rust)], on_own_pages(ARCHIVE))
+    return program, made

@@ -1,9 +1,20 @@
 /*
- * Measures the proved code beside the same rules stepped plainly in Rust and in C, all in one process.
- * First every side has to come to the same results; then each is timed, in turn with the others, and
+ * Measures the proved code beside the same rules stepped plainly in Rust, both in one process.
+ * First both sides have to come to the same results; then each is timed, in turn with the other, and
  * the best of several times is printed: a line for each row, its name and the nanoseconds of each side.
  */
-#include "plain.h"
+#include "vorstelpijp.h"
+
+/* Where the scan is, with its sync counts. */
+struct place { struct scan scan; struct sync sync; };
+
+/* The limits of the display counter's two dividers. */
+struct mode { u8 x, y; };
+
+/* The calls of plain.rs; held is R0 to R15. Only pointers and numbers cross them. */
+void rust_clock(struct place *at, const u8 held[16], unsigned n);
+void rust_locate(struct found *out, const u8 held[16], unsigned latch);
+void rust_fetches(struct display *at, const struct mode *mode, unsigned n);
 
 /* The calls of the C library that are used; no header, so that any C compiler for x86-64 will do. */
 struct moment { long seconds, nanoseconds; };
@@ -12,21 +23,11 @@ int printf(const char *form, ...);
 int fflush(void *every);
 
 enum { MONOTONIC = 1, CALL = 65535, ROUNDS = 11, SAMPLE = 20000000 };
-enum { PROVED, RUST, C, SIDES };
-static const char *const names[SIDES] = {"proved", "Rust", "C"};
-
-#ifdef NO_RUST
-enum { HAS_RUST = 0 };
-void rust_clock(struct place *at, const struct registers *regs, unsigned n) { c_clock(at, regs, n); }
-void rust_locate(struct found *out, const struct registers *regs, unsigned latch) { c_locate(out, regs, latch); }
-void rust_fetches(struct display *at, const struct mode *mode, unsigned n) { c_fetches(at, mode, n); }
-#else
-enum { HAS_RUST = 1 };
-#endif
+enum { PROVED, RUST, SIDES };
 
 /* What the sides work on. */
 static struct controller chip;
-static struct registers regs;
+static const u8 *held;
 static struct place places[SIDES];
 static struct found cells[SIDES];
 static struct display counters[SIDES];
@@ -41,19 +42,16 @@ static void proved_clock(unsigned n)
 
 /* One call of each kind on each side. */
 static void clock_proved(void) { proved_clock(CALL); }
-static void clock_rust(void) { rust_clock(&places[RUST], &regs, CALL); }
-static void clock_c(void) { c_clock(&places[C], &regs, CALL); }
+static void clock_rust(void) { rust_clock(&places[RUST], held, CALL); }
 static void locate_proved(void) { cells[PROVED] = controller_locate(chip); }
-static void locate_rust(void) { rust_locate(&cells[RUST], &regs, controller_newest(chip).latch); }
-static void locate_c(void) { c_locate(&cells[C], &regs, controller_newest(chip).latch); }
+static void locate_rust(void) { rust_locate(&cells[RUST], held, controller_newest(chip).latch); }
 static void fetch_proved(void) { counters[PROVED] = display_fetches(control_bits, counters[PROVED], CALL); }
 static void fetch_rust(void) { rust_fetches(&counters[RUST], &mode, CALL); }
-static void fetch_c(void) { c_fetches(&counters[C], &mode, CALL); }
 
 typedef void (*work)(void);
-static const work clocks[SIDES] = {clock_proved, clock_rust, clock_c};
-static const work locates[SIDES] = {locate_proved, locate_rust, locate_c};
-static const work fetches[SIDES] = {fetch_proved, fetch_rust, fetch_c};
+static const work clocks[SIDES] = {clock_proved, clock_rust};
+static const work locates[SIDES] = {locate_proved, locate_rust};
+static const work fetches[SIDES] = {fetch_proved, fetch_rust};
 
 static double time_of(work call, long calls)
 {
@@ -89,15 +87,15 @@ static void measure(const char *row, const work sides[SIDES], double units)
             if (took < best[side])
                 best[side] = took;
         }
-    printf("%s\t%.6f\t%.6f\t%.6f\n", row, best[PROVED] / units, HAS_RUST ? best[RUST] / units : -1, best[C] / units);
+    printf("%s\t%.6f\t%.6f\n", row, best[PROVED] / units, best[RUST] / units);
     fflush(0);
 }
 
-static int differs(const char *row, int side, unsigned long step, int same)
+static int differs(const char *row, unsigned long step, int same)
 {
     if (same)
         return 0;
-    printf("differs\t%s\t%s\t%lu\n", row, names[side], step);
+    printf("differs\t%s\t%lu\n", row, step);
     return 1;
 }
 
@@ -122,46 +120,41 @@ static int same_counter(struct display a, struct display b)
 static const u16 strides[] = {0, 1, 2, 3, 7, 61, 64, 257, 1000, 4099, 65535};
 enum { STRIDES = sizeof strides / sizeof strides[0], TURNS = 8 };
 
-/* All sides at the place that a reset with these registers leaves. */
-static void reset_with(const u8 held[16])
+/* Both sides at the place that a reset with these registers leaves. */
+static void reset_with(const u8 wanted[16])
 {
+    held = wanted;
     chip = (struct controller){0};
     for (int k = 0; k < 16; k++)
         chip.regs.held[k] = held[k];
     chip = controller_reset(chip);
-    regs = chip.regs;
     for (int side = 0; side < SIDES; side++)
         places[side] = (struct place){chip.scan, chip.sync};
 }
 
-static int compare_clocks(const char *row, const u8 held[16])
+static int compare_clocks(const char *row, const u8 wanted[16])
 {
     unsigned long gone = 0;
-    reset_with(held);
+    reset_with(wanted);
     for (int turn = 0; turn < TURNS * STRIDES; turn++) {
         u16 n = strides[turn % STRIDES];
         gone += n;
         proved_clock(n);
-        rust_clock(&places[RUST], &regs, n);
-        c_clock(&places[C], &regs, n);
-        for (int side = RUST; side < SIDES; side++)
-            if (differs(row, side, gone, same_place(places[side], places[PROVED])))
-                return 1;
+        rust_clock(&places[RUST], held, n);
+        if (differs(row, gone, same_place(places[RUST], places[PROVED])))
+            return 1;
     }
     return 0;
 }
 
-/* A strike after that many character times, located on every side. */
-static int compare_locates(const char *row, const u8 held[16], u16 time)
+/* A strike after that many character times, located on both sides. */
+static int compare_locates(const char *row, const u8 wanted[16], u16 time)
 {
-    reset_with(held);
+    reset_with(wanted);
     chip = controller_strike(controller_clock(chip, time));
-    for (int side = 0; side < SIDES; side++)
-        locates[side]();
-    for (int side = RUST; side < SIDES; side++)
-        if (differs(row, side, time, same_cell(cells[side], cells[PROVED])))
-            return 1;
-    return 0;
+    locate_proved();
+    locate_rust();
+    return differs(row, time, same_cell(cells[RUST], cells[PROVED]));
 }
 
 static int compare_fetches(const char *row, u16 bits, struct mode limits)
@@ -176,10 +169,8 @@ static int compare_fetches(const char *row, u16 bits, struct mode limits)
         gone += n;
         counters[PROVED] = display_fetches(control_bits, counters[PROVED], n);
         rust_fetches(&counters[RUST], &mode, n);
-        c_fetches(&counters[C], &mode, n);
-        for (int side = RUST; side < SIDES; side++)
-            if (differs(row, side, gone, same_counter(counters[side], counters[PROVED])))
-                return 1;
+        if (differs(row, gone, same_counter(counters[RUST], counters[PROVED])))
+            return 1;
     }
     return 0;
 }

@@ -2,12 +2,8 @@
 //! It stands on no library, so that it can be compiled for x86-64 on any machine.
 #![no_std]
 
-#[derive(Clone, Copy)]
-#[repr(C)]
-pub struct Registers {
-    held: [u8; 16],
-    named: u8,
-}
+/// R0 to R15.
+type Registers = [u8; 16];
 
 #[derive(Clone, Copy)]
 #[repr(C)]
@@ -61,30 +57,30 @@ impl Scan {
     fn next_row(&mut self, r: &Registers) {
         self.line = 0;
         self.row = (self.row + 1) % 128;
-        self.base = (self.base + u16::from(r.held[1])) % 16384;
+        self.base = (self.base + u16::from(r[1])) % 16384;
     }
 
     fn next_frame(&mut self, r: &Registers) {
         self.line = 0;
         self.row = 0;
         self.adjusting = false;
-        self.start = 256 * u16::from(r.held[12]) + u16::from(r.held[13]);
+        self.start = 256 * u16::from(r[12]) + u16::from(r[13]);
         self.base = self.start;
         self.field = (self.field + 1) % 32;
     }
 
     fn next_line(&mut self, r: &Registers) {
         if self.adjusting {
-            if (self.line + 1) % 32 == r.held[5] {
+            if (self.line + 1) % 32 == r[5] {
                 self.next_frame(r);
             } else {
                 self.line = (self.line + 1) % 32;
             }
-        } else if self.line != r.held[9] {
+        } else if self.line != r[9] {
             self.line = (self.line + 1) % 32;
-        } else if self.row != r.held[4] {
+        } else if self.row != r[4] {
             self.next_row(r);
-        } else if r.held[5] == 0 {
+        } else if r[5] == 0 {
             self.next_frame(r);
         } else {
             self.next_row(r);
@@ -95,16 +91,16 @@ impl Scan {
 
 impl Sync {
     fn arrive(&mut self, s: &Scan, r: &Registers) {
-        if s.column == r.held[2] {
-            self.hsync = r.held[3] % 16;
+        if s.column == r[2] {
+            self.hsync = r[3] % 16;
         } else if self.hsync > 0 {
             self.hsync -= 1;
         }
         if s.column != 0 {
             return;
         }
-        if s.row == r.held[7] && s.line == 0 && !s.adjusting {
-            self.vsync = if r.held[3] / 16 == 0 { 16 } else { r.held[3] / 16 };
+        if s.row == r[7] && s.line == 0 && !s.adjusting {
+            self.vsync = if r[3] / 16 == 0 { 16 } else { r[3] / 16 };
         } else if self.vsync > 0 {
             self.vsync -= 1;
         }
@@ -113,7 +109,7 @@ impl Sync {
 
 impl Place {
     fn step(&mut self, r: &Registers) {
-        if self.scan.column != r.held[0] {
+        if self.scan.column != r[0] {
             self.scan.column = self.scan.column.wrapping_add(1);
         } else {
             self.scan.column = 0;
@@ -125,9 +121,9 @@ impl Place {
 
 /// n character times.
 #[no_mangle]
-pub extern "C" fn rust_clock(at: &mut Place, regs: &Registers, n: u32) {
+pub extern "C" fn rust_clock(at: &mut Place, held: &Registers, n: u32) {
     let mut p = *at;
-    let r = *regs;
+    let r = *held;
     for _ in 0..n {
         p.step(&r);
     }
@@ -135,11 +131,11 @@ pub extern "C" fn rust_clock(at: &mut Place, regs: &Registers, n: u32) {
 }
 
 fn cell_address(r: &Registers, row: u32, column: u32) -> u32 {
-    let (high, low) = (u32::from(r.held[12]), u32::from(r.held[13]));
-    if r.held[8] / 4 % 2 == 1 {
+    let (high, low) = (u32::from(r[12]), u32::from(r[13]));
+    if r[8] / 4 % 2 == 1 {
         return 256 * ((high + row) % 64) + (low + column) % 256;
     }
-    (256 * high + low + row * u32::from(r.held[1]) + column) % 16384
+    (256 * high + low + row * u32::from(r[1]) + column) % 16384
 }
 
 fn shown_of(shown: u8, last: u8) -> u32 {
@@ -148,9 +144,9 @@ fn shown_of(shown: u8, last: u8) -> u32 {
 
 /// The cells that fit a picture strike's latch, looked for in every cell.
 #[no_mangle]
-pub extern "C" fn rust_locate(out: &mut Found, regs: &Registers, latch: u32) {
-    let r = *regs;
-    let (rows, columns) = (shown_of(r.held[6], r.held[4]), shown_of(r.held[1], r.held[0]));
+pub extern "C" fn rust_locate(out: &mut Found, held: &Registers, latch: u32) {
+    let r = *held;
+    let (rows, columns) = (shown_of(r[6], r[4]), shown_of(r[1], r[0]));
     let mut found = Found { refusal: 7, row: 0, column: 0 };
     let mut fits = 0;
     for row in 0..rows {

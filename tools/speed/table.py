@@ -12,7 +12,7 @@ ROWS = [
     ("fetch-001", "a display fetch, mode 001"),
 ]
 WHOLE = "whole listing program, a character time (3)"
-FORM = "{:<46}{:>12}{:>12}{:>12}{:>14}"
+FORM = "{:<46}{:>12}{:>12}{:>14}"
 
 
 def digits(number):
@@ -20,16 +20,14 @@ def digits(number):
     return f"{number:,.0f}" if number >= 100 else f"{number:.3g}"
 
 
-def ratio(other, proved):
-    """How many times as long the other side takes."""
-    return f"{other / proved:,.0f}" if other >= 100 * proved else f"{other / proved:.2f}"
+def ratio(rust, proved):
+    """How many times as long the Rust side takes."""
+    return f"{rust / proved:,.0f}" if rust >= 100 * proved else f"{rust / proved:.2f}"
 
 
-def row_line(what, proved, rust, plain_c, has_rust):
-    """One row of measured times, in nanoseconds; None for a side that is not there."""
-    other = rust if has_rust else plain_c
-    cells = [digits(number) if number is not None else "-" for number in (proved, rust, plain_c)]
-    return FORM.format(what, *cells, ratio(other, proved))
+def row_line(what, proved, rust):
+    """One row of measured times, in nanoseconds."""
+    return FORM.format(what, digits(proved), digits(rust), ratio(rust, proved))
 
 
 def whole_lines(whole, kit):
@@ -38,7 +36,7 @@ def whole_lines(whole, kit):
         return [f"{WHOLE:<46}  {whole.why}"], []
     each = RECORDS * CLOCKS / 1e9
     proved, second = whole.proved / each, whole.second / each
-    beside = ["-", "-", "-"] if kit.emulator else [digits(second), "-", ratio(second, proved)]
+    beside = ["-", "-"] if kit.emulator else [digits(second), ratio(second, proved)]
     remarks = [f"    whole times: proved {whole.proved * 1e3:,.1f} ms, second program {whole.second * 1e3:,.1f} ms."]
     if kit.emulator:
         remarks.append("    These two are not to be compared: the proved program ran under the emulator, and the second one on the")
@@ -49,42 +47,33 @@ def whole_lines(whole, kit):
 def machine_lines(kit):
     """The kind of machine, and how all was run."""
     if not kit.emulator:
-        return [f"machine: {kit.machine}. All sides are x86-64 code in one process, run directly."]
+        return [f"machine: {kit.machine}. Both sides are x86-64 code in one process, run directly."]
     return [
-        f"machine: {kit.machine}. Proved code is x86-64 code, so all sides were compiled for x86-64 and run, in one",
+        f"machine: {kit.machine}. Proved code is x86-64 code, so both sides were compiled for x86-64 and run, in one",
         "process, UNDER THE TOOLCHAIN'S EMULATOR. The times say nothing by themselves, and the ratios a little.",
     ]
 
 
-def made_lines(built):
-    """How each side was compiled."""
-    lines = ["proved: rt staticlib exports (crates/exports over the proved crates)"]
-    if built.rust:
-        lines.append(f"Rust: {built.rust}")
-    else:
-        lines.append(f"Rust: not measured, {built.lacks}")
-        lines.append("      So C stands in for it: the last column is C/proved.")
-    return lines + [f"C: {built.c}"]
-
-
-def notes(built):
-    """What stands under the table."""
+def notes(made):
+    """How each side was compiled, and what the table means."""
     return [
-        f"Times in nanoseconds, best of several. A ratio above 1: the proved code is faster than {'Rust' if built.rust else 'C'}.",
-        "All sides came to the same results before they were timed.",
+        "proved: rt staticlib exports (crates/exports over the proved crates)",
+        f"Rust: {made}",
+        "Times in nanoseconds, best of several. A ratio above 1: the proved code is faster than Rust.",
+        "Both sides came to the same results before they were timed.",
         "(1) R1 40, R2 50, R3 28 hex, R4 38, R6 25, R7 30, R9 7, others 0",
-        "(2) R0 255, R1 255, R4 127, R6 127, others 0; the plain sides look at all 127 x 255 cells",
+        "(2) R0 255, R1 255, R4 127, R6 127, others 0; the Rust side looks at all 127 x 255 cells",
         f"(3) a batch of {RECORDS:,} records of {CLOCKS:,} clocks, all registers 0; beside it, as Rust, the second program",
     ]
 
 
-def table(kit, built, times, whole):
-    """The whole text."""
-    heads = FORM.format("", "proved", "Rust", "C", "Rust/proved" if built.rust else "C/proved")
-    units = FORM.format("what", "ns each", "ns each", "ns each", "ratio")
+def table(kit, made, times, whole):
+    """The whole text; made tells how the Rust side was compiled."""
+    heads = FORM.format("", "proved", "Rust", "Rust/proved")
+    units = FORM.format("what", "ns each", "ns each", "ratio")
     lines = [heads, units, "-" * len(units)]
     for name, what in ROWS:
-        lines.append(row_line(what, *times[name], bool(built.rust)))
+        lines.append(row_line(what, *times[name]))
     rows, remarks = whole_lines(whole, kit)
-    lines += rows + ["-" * len(units)] + machine_lines(kit) + made_lines(built) + notes(built) + remarks
+    lines += rows + ["-" * len(units)] + machine_lines(kit) + notes(made) + remarks
     return "\n".join(lines)

@@ -1,0 +1,107 @@
+"""The table of tools/bench, and what is said where its Rust side cannot be compiled. Nothing is proved or measured here."""
+import os
+import platform
+import subprocess
+import sys
+import unittest
+from unittest import mock
+
+from commands import TOP, CannotRun
+from kit import Kit
+from speed import build
+from speed.programs import Whole
+from speed.table import ROWS, table
+from tests.trees import TreeTest
+
+# It notes what it is asked, and answers 'rt doc'.
+RT = '#!/bin/sh\ntop="${0%/bin/rt}"\necho "$*" >>"$top/asked"\necho "$top/docs/guide"\n'
+# It has no library for x86-64, and writes text for the machine that it runs on.
+RUSTC = """#!/bin/sh
+case "$*" in
+    --version) echo "rustc 9.9" ;;
+    *llvm-ir*) while [ "$1" != -o ]; do shift; done; while read -r line; do echo "$line"; done <"${0%/bin/rustc}/written" >"$2" ;;
+    *) echo "error: no core for x86-64"; exit 1 ;;
+esac
+"""
+CLANG = '#!/bin/sh\n[ "$*" = --version ] && echo "clang 8" && exit\necho "plain.ll: error: expected type"\nexit "${REFUSES:-0}"\n'
+WRITTEN = """source_filename = "plain"
+target datalayout = "e-m:e-i8:8:32-i128:128"
+target triple = "aarch64-unknown-linux-gnu"
+attributes #0 = { nounwind "frame-pointer"="non-leaf" "target-cpu"="generic" "target-features"="+v8a" }
+"""
+RETARGETED = """source_filename = "plain"
+attributes #0 = { nounwind "target-cpu"="x86-64" }
+"""
+
+
+class Table(unittest.TestCase):
+    """Two sides, and one ratio."""
+
+    def lines(self, emulator=None):
+        """The table of sides that differ by 2, and by 200 in the first row."""
+        times = {name: [0.5, 100.0 if name == ROWS[0][0] else 1.0] for name, _ in ROWS}
+        return table(Kit("machine", None, None, emulator), "rustc 9.9", times, Whole(0.5, 2.0, None)).splitlines()
+
+    def test_the_columns(self):
+        lines = self.lines()
+        self.assertEqual(lines[0].split(), ["proved", "Rust", "Rust/proved"])
+        self.assertEqual(lines[1].split(), ["what", "ns", "each", "ns", "each", "ratio"])
+        self.assertIn("Rust: rustc 9.9", lines)
+
+    def test_the_ratios(self):
+        rows = self.lines()[3:]
+        for (_, what), row in zip(ROWS, rows):
+            self.assertEqual(row.split(), what.split() + (["0.5", "100", "200"] if row == rows[0] else ["0.5", "1", "2.00"]))
+        self.assertEqual(rows[len(ROWS)].split()[-1], "4.00")
+
+    def test_whole_programs_are_not_compared_under_the_emulator(self):
+        self.assertEqual(self.lines("emulator")[3 + len(ROWS)].split()[-2:], ["-", "-"])
+
+
+class RustSide(TreeTest):
+    """How the Rust side is compiled, or why it is not, by stand-ins that alone are on the PATH."""
+
+    FILES = {"bin/rt": RT, "bin/rustc": RUSTC, "written": WRITTEN, "toolchain/bin/clang": CLANG,
+             f"on/{platform.machine()}/toolchain/bin/qemu-x86_64": "#!/bin/sh\n"}
+
+    def write(self):
+        super().write()
+        for path in self.top.glob("**/bin/*"):
+            path.chmod(0o755)
+
+    def assertRefused(self, words, emulator, **settings):
+        """The build is refused with these words, and has proved nothing."""
+        self.write()
+        kit = Kit("machine", self.top / "toolchain", None, emulator)
+        with mock.patch.dict(os.environ, {"PATH": f"{self.top}/bin", **settings}), \
+                mock.patch.multiple(build, ROOM=self.top, say=mock.DEFAULT, prove_archive=mock.DEFAULT) as instead:
+            with self.assertRaises(CannotRun) as refused:
+                build.build(kit, True)
+            instead["prove_archive"].assert_not_called()
+        self.assertEqual(str(refused.exception), words)
+
+    def test_no_library_for_x86_64_on_x86_64(self):
+        self.assertRefused("rustc refused plain.rs: error: no core for x86-64", None)
+
+    def test_text_that_clang_refuses(self):
+        self.assertRefused("the kit's clang does not take what rustc 9.9 writes: plain.ll: error: expected type", "emulator", REFUSES="1")
+
+    def test_text_that_clang_takes(self):
+        self.write()
+        with mock.patch.dict(os.environ, {"PATH": f"{self.top}/bin"}), mock.patch.object(build, "ROOM", self.top):
+            made = build.compile_rust(Kit("machine", self.top / "toolchain", None, "emulator"), self.top / "plain.o")
+        self.assertEqual(made, "rustc 9.9, opt-level 3, then the kit's clang 8 -O3 to x86-64")
+        self.assertEqual((self.top / "plain.ll").read_text(), RETARGETED)
+
+    def test_no_rustc(self):
+        del self.files["bin/rustc"]
+        self.write()
+        done = subprocess.run([sys.executable, TOP / "tools" / "bench"], env={**os.environ, "PATH": f"{self.top}/bin"},
+                              stdin=subprocess.DEVNULL, capture_output=True, text=True, timeout=60)
+        said = "tools/bench: the command rustc is not on the PATH\n"
+        self.assertEqual((done.stdout, done.stderr, done.returncode), ("", said, 2))
+        self.assertEqual((self.top / "asked").read_text(), "doc\n")
+
+
+if __name__ == "__main__":
+    unittest.main()
