@@ -1,5 +1,6 @@
 """The desk program ./vorstelpijp: it turns words into records and answers into words. What the chips do, only the proved programs compute.
 
+settings    what a byte means to a register
 vocabulary  what registers, control bits and selects are called
 reading     words to records          wording    records to words
 hextext     hex to bytes              batch      a batch with the remarks of its file, and the files that hold one

@@ -1,10 +1,8 @@
 """A batch with the remarks of its file, and the files that hold one: words, commented hex, or bytes."""
 import os
-import stat
-import sys
 from typing import NamedTuple, Optional
 
-from records import RECORD_BYTES
+from records import MOST_BATCH_BYTES, RECORD_BYTES
 from . import hextext, reading
 from .terminal import tell
 from .wording import labels_of
@@ -102,38 +100,44 @@ def without_labels(batch):
 
 def form_of(name, said):
     """How a file's bytes are meant: as was said, or by its ending."""
-    ending = os.path.splitext(name)[1].lower()
-    form = said or (None if name == STANDARD_INPUT else ENDINGS.get(ending))
+    form = said or ENDINGS.get(os.path.splitext(name)[1].lower())
     if form is None:
-        what = "standard input" if name == STANDARD_INPUT else f"a file that ends in '{ending}'" if ending else "a file without an ending"
-        raise BadInput(f"{name}: cannot tell what {what} holds; expected a name in .batch (words), .hex (hex) or .bin (bytes), "
-                       "or say it with --as words, --as hex or --as bytes")
+        raise BadInput(f"{name}: cannot tell what it holds; expected a name that ends in .batch (words), .hex (hex) or .bin (bytes), "
+                       "or one of --as words, --as hex and --as bytes")
     return form
 
 
-def read_bytes(name):
-    """All bytes of a file, or of standard input."""
+def see_a_file(name):
+    """Sees that there is a file of this name, and not a folder."""
+    if os.path.isdir(name):
+        raise BadInput(f"{name}: this is a folder; expected a file")
+    if not os.path.lexists(name):
+        raise BadInput(f"{name}: there is no such file")
+
+
+def read_bytes(name, place):
+    """All bytes of a file or a standard input, and not more than any batch could need. place is its path, or its number."""
     try:
-        if name == STANDARD_INPUT:
-            if sys.stdin.isatty():
-                tell("reading from the keyboard; an end of file (Ctrl-D) ends the batch")
-            given = sys.stdin.buffer.read(MOST_FILE + 1)
-        else:
-            if stat.S_ISDIR(os.stat(name).st_mode):
-                raise BadInput(f"{name}: this is a folder; expected a file")
-            with open(name, "rb") as file:
-                given = file.read(MOST_FILE + 1)
-    except (OSError, ValueError, AttributeError) as problem:
+        with open(place, "rb", closefd=place != 0) as file:
+            given = file.read(MOST_FILE + 1)
+    except (OSError, ValueError) as problem:
         raise BadInput(f"{name}: cannot be read: {getattr(problem, 'strerror', None) or problem}") from problem
     if len(given) > MOST_FILE:
-        raise BadInput(f"{name}: more than {MOST_FILE:,} bytes; this is no batch")
+        raise BadInput(f"{name}: more than {MOST_FILE:,} bytes; a batch has at most {MOST_BATCH_BYTES:,}")
     return given
 
 
 def read_batch(name, said=None):
-    """The batch of a file."""
+    """The batch of a file, or of standard input."""
+    place = name
+    if name == STANDARD_INPUT:
+        name, place = "standard input", 0
+    else:
+        see_a_file(name)
     form = form_of(name, said)
-    given = read_bytes(name)
+    if place == 0 and os.isatty(place):
+        tell("reading from the keyboard; Ctrl-D on a line of its own ends the batch")
+    given = read_bytes(name, place)
     if form == BYTES:
         return Batch(given)
     text = given.decode("utf-8-sig", errors="surrogateescape")

@@ -1,13 +1,12 @@
 """The listing with each record and its answer in words beside it."""
 import re
 
-from records import MOST_BATCH_BYTES, RECORD_BYTES, records_of
 from commands import CannotRun
+from records import RECORD_BYTES, records_of
 from . import answers, refusals
 from .wording import labels_of
 from .writing import headings, standing_alone
 
-TOO_LONG = "too long"
 ANSWER = re.compile(r"([0-9a-f]{16})( odd)?")
 END = re.compile(r"end ([0-9])")
 BESIDE = 2  # spaces between two columns
@@ -56,8 +55,8 @@ class Explained:
 
 def explain(batch, listing, paper):
     """The whole text."""
-    if listing == f"{TOO_LONG}\n" and len(batch.data) > MOST_BATCH_BYTES:
-        return paper.laid(f"{TOO_LONG}: ", refusals.too_long(len(batch.data))) + "\n"
+    if listing == refusals.TOO_LONG:
+        return paper.laid(f"{listing.strip()}: ", refusals.too_long(len(batch.data))) + "\n"
     whole = len(batch.data) // RECORD_BYTES
     given, ending = parts_of(listing, whole)
     made, waiting = Explained(paper), headings(batch)

@@ -1,6 +1,7 @@
 """Why a record was refused or a replay ended, and what to do about it."""
 from records import GREATEST_FIELDS, KIND_NAMES, MOST_BATCH_BYTES, RECORD_BYTES
 
+TOO_LONG = "too long\n"
 FIELDS = ("hi", "lo", "data")
 MOST_RECORDS = MOST_BATCH_BYTES // RECORD_BYTES
 
@@ -60,3 +61,13 @@ def too_long(length):
     """What `too long` says."""
     return (f"the batch has {length:,} bytes; at most {MOST_BATCH_BYTES:,} are taken, {MOST_RECORDS:,} records. Cut it at a place "
             "where you can begin each part with the setting: the chips start fresh in each run.")
+
+
+def surprise(data, text):
+    """What somebody has to know of a batch whose answers end otherwise than he may think; None where there is nothing."""
+    if text == TOO_LONG:
+        return too_long(len(data))
+    if not data:
+        return "the batch is empty: it has no record"
+    rest = data[len(data) // RECORD_BYTES * RECORD_BYTES:]
+    return ending(3, rest) if rest else None

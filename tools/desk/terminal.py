@@ -1,7 +1,7 @@
 """Width and weight of what is shown, and words for people on standard error."""
+import contextlib
 import os
 import shutil
-import sys
 import textwrap
 
 WHO = "vorstelpijp"
@@ -12,7 +12,9 @@ BOLD, PLAIN = "\033[1m", "\033[0m"
 
 def tell(words):
     """A line on standard error."""
-    print(f"{WHO}: {words}", file=sys.stderr, flush=True)
+    text = f"{WHO}: {words}\n".encode("utf-8", errors="backslashreplace")
+    with contextlib.suppress(OSError):
+        os.write(2, text)
 
 
 def shortened(word):
@@ -30,7 +32,7 @@ class Paper:
     @classmethod
     def of_output(cls):
         """For standard output as it is."""
-        if not sys.stdout.isatty():
+        if not os.isatty(1):
             return cls()
         plain = "NO_COLOR" in os.environ or os.environ.get("TERM") in (None, "dumb")
         return cls(max(shutil.get_terminal_size().columns, LEAST_WIDTH), not plain)

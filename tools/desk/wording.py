@@ -4,6 +4,7 @@ from typing import NamedTuple
 import records
 from records import CONTROL, CONTROL_BITS, RECORD_BYTES, is_allowed, records_of
 from .refusals import why_not_allowed
+from .settings import meaning
 from .vocabulary import REGISTER_NUMBERS, control_bit, in_hex, register, register_value
 
 CHIPS = ("controller", "multiplexer")
@@ -83,7 +84,7 @@ def label_of(one, named):
     kind, high, low, value = one
     meant = f"R{named}"
     if kind == 1 and low:
-        return f"{meant} = {register_value(named, value)} ({register(named)})"
+        return f"{meant} = {register_value(named, value)} ({meaning(named, value)})"
     if kind == 1:
         return f"{words_of(one)} ({register(value % REGISTER_NUMBERS)})"
     if kind == 2 and low:

@@ -1,0 +1,60 @@
+"""What a command is, and what those that take a batch have in common."""
+from typing import Callable, NamedTuple
+
+from .. import refusals
+from ..batch import BYTES, HEX, WORDS, read_batch
+from ..proved import printed
+from ..reading import FORMS
+from ..terminal import tell
+
+HOW_A_FILE_IS_READ = """\
+FILE is a batch: in words (.batch), as commented hex (.hex) or as bytes (.bin). --as says what any other
+file is, and what comes on standard input, for which FILE is '-'. It is read and never written.
+"""
+HOW_WORDS_ARE_WRITTEN = """\
+A batch in words has one record or a few a line, with ';' between them. '#' begins a comment. Numbers are
+decimal, or hex with '$'.
+
+{}
+"""
+
+
+class Command(NamedTuple):
+    """One command: its name, a line on it, what its help says before and behind the arguments, these, and what it prints."""
+
+    name: str
+    summary: str
+    about: str
+    more: str
+    add_arguments: Callable  # is given the parser
+    run: Callable  # is given the arguments, and gives the text or the bytes for standard output
+
+
+def vocabulary():
+    """The forms of words, for a help text."""
+    return HOW_WORDS_ARE_WRITTEN.format("\n".join(f"  {form.shape:<19} {form.meaning}" for form in FORMS))
+
+
+def add_batch(parser):
+    """The arguments that name a batch."""
+    parser.add_argument("file", metavar="FILE", help="the batch; '-' is standard input")
+    parser.add_argument("--as", dest="form", choices=(WORDS, HEX, BYTES), help="what FILE holds, whatever its name ends in")
+
+
+def batch_of(asked):
+    """The batch that the arguments name."""
+    return read_batch(asked.file, asked.form)
+
+
+def batch_command(name, summary, about, run, add_arguments=add_batch):
+    """A command that takes a batch."""
+    return Command(name, summary, about, f"{HOW_A_FILE_IS_READ}\n{vocabulary()}", add_arguments, run)
+
+
+def replayed(program, batch, given):
+    """What a proved program prints for a batch, with a word on standard error where that may surprise."""
+    text = printed(program, given)
+    surprise = refusals.surprise(batch.data, text)
+    if surprise:
+        tell(surprise)
+    return text

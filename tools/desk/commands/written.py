@@ -1,0 +1,20 @@
+"""A batch written in another form: as words, as commented hex, as bytes."""
+from ..writing import as_hex, as_words
+from .command import batch_command, batch_of
+
+WORDS = """\
+Prints the batch in words, with the comments of its file. Reading the words gives the same bytes again: a record that
+is damaged, and one to three bytes at the end, are written as bytes.
+"""
+HEX = """\
+Prints the batch as hex, a record a line with what it is behind it, and with the comments of its file.
+"""
+BYTES = """\
+Writes the bytes of the batch, four to a record, to standard output; meant for a file: 'bytes FILE > NEW.bin'.
+"""
+
+COMMANDS = (
+    batch_command("words", "print a batch in words", WORDS, lambda asked: as_words(batch_of(asked))),
+    batch_command("hex", "print a batch as commented hex", HEX, lambda asked: as_hex(batch_of(asked))),
+    batch_command("bytes", "write the bytes of a batch", BYTES, lambda asked: batch_of(asked).data),
+)

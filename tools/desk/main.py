@@ -1,0 +1,79 @@
+"""The command line of the desk program, and how it ends: 0 well, 1 a program cannot be built or run, 2 the input is wrong."""
+import argparse
+import os
+import sys
+
+from commands import CannotRun
+from .batch import BadInput
+from .commands import COMMANDS
+from .terminal import WHO, tell
+
+GOOD, CANNOT, WRONG, STOPPED = 0, 1, 2, 130
+ABOUT = """\
+Replays a customer's register writes on paper models of two chips, the 6545-1 display controller and the MC6883 address
+multiplexer, and says what they would have answered. What the chips do is computed by proved programs; the words around
+it are tested, not proved.
+"""
+MORE = """\
+First steps:
+  ./vorstelpijp explain examples/march.batch     the March case, line by line
+  ./vorstelpijp explain --help                   how a batch is written in words
+
+A program is proved and built when it is first needed, which takes some minutes and shows how far it is.
+Exit status: 0 well; 1 a program cannot be built or run; 2 the input or the command line is wrong, nothing was run.
+"""
+
+
+def command_line():
+    """The parser, with a part for each command."""
+    form = argparse.RawDescriptionHelpFormatter
+    parser = argparse.ArgumentParser(prog=f"./{WHO}", description=ABOUT, epilog=MORE, formatter_class=form)
+    parts = parser.add_subparsers(metavar="COMMAND", dest="command", title="commands")
+    for command in COMMANDS:
+        part = parts.add_parser(command.name, help=command.summary, description=command.about, epilog=command.more, formatter_class=form)
+        command.add_arguments(part)
+        part.set_defaults(run=command.run)
+    return parser
+
+
+def put_out(text):
+    """Writes all of a text or of bytes to standard output, past Python's own buffer, so that nothing is left to fail at the end."""
+    rest = text if isinstance(text, bytes) else text.encode("utf-8", errors="surrogateescape")
+    while rest:
+        rest = rest[os.write(1, rest):]
+
+
+def run(asked):
+    """Runs a command. Gives the exit status."""
+    try:
+        text = asked.run(asked)
+    except BadInput as problem:
+        for message in problem.messages:
+            tell(message)
+        return WRONG
+    except (CannotRun, OSError) as problem:
+        tell(problem)
+        return CANNOT
+    try:
+        put_out(text)
+    except BrokenPipeError:
+        return CANNOT  # whoever read the output has seen enough
+    except OSError as problem:
+        tell(f"standard output cannot be written: {problem.strerror}")
+        return CANNOT
+    return GOOD
+
+
+def main(words):
+    """The whole program."""
+    sys.stderr = sys.stderr or open(os.devnull, "w", encoding="utf-8")
+    parser = command_line()
+    asked = parser.parse_args(words)
+    if asked.command is None:
+        parser.print_help(sys.stderr)
+        return WRONG
+    try:
+        return run(asked)
+    except KeyboardInterrupt:
+        tell("stopped")
+        return STOPPED

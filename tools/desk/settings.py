@@ -1,0 +1,57 @@
+"""What a byte means to the register that it is written to, in words."""
+from .vocabulary import in_hex
+
+KEPT = {4: 7, 5: 5, 6: 7, 7: 7, 9: 5, 10: 7, 11: 5, 12: 6, 14: 6}  # bits, of the registers that do not keep all eight
+LAST_WRITTEN = 15
+MODES = ((0x04, "addresses by row and column"), (0x10, "display enable delayed"), (0x20, "cursor delayed"))
+BLINKS = ("steady", "never shown", "blinking, 8 frames on and 8 off", "blinking, 16 frames on and 16 off")
+
+
+def counted(number, one, many):
+    """A number of things."""
+    return f"{number} {one if number == 1 else many}"
+
+
+def widths(value):
+    """R3."""
+    return (f"HSYNC {counted(value % 16, 'character', 'characters')} wide, "
+            f"VSYNC {counted(value // 16 or 16, 'line', 'lines')} high")
+
+
+def modes(value):
+    """R8."""
+    return ", ".join(name for bit, name in MODES if value & bit) or "addresses in one run, no delay"
+
+
+def cursor(value):
+    """R10."""
+    return f"cursor from line {value % 32} on, {BLINKS[value // 32]}"
+
+
+MEANINGS = (
+    lambda value: f"{counted(value + 1, 'character', 'characters')} in a line",
+    lambda value: f"{counted(value, 'character', 'characters')} shown in a line",
+    lambda value: f"HSYNC begins at column {value}",
+    widths,
+    lambda value: f"{counted(value + 1, 'row', 'rows')} in a frame",
+    lambda value: counted(value, "adjust line", "adjust lines"),
+    lambda value: f"{counted(value, 'row', 'rows')} shown",
+    lambda value: f"VSYNC begins with row {value}",
+    modes,
+    lambda value: f"{counted(value + 1, 'line', 'lines')} in a row",
+    cursor,
+    lambda value: f"cursor to line {value}",
+    lambda value: f"start address {in_hex(value, 2)}xx",
+    lambda value: f"start address $xx{value:02X}",
+    lambda value: f"cursor address {in_hex(value, 2)}xx",
+    lambda value: f"cursor address $xx{value:02X}",
+)
+
+
+def meaning(number, value):
+    """What a byte written to a register means there."""
+    if number > LAST_WRITTEN:
+        return "cannot be written, so nothing changes"
+    bits = KEPT.get(number, 8)
+    words = MEANINGS[number](value % 2 ** bits)
+    return words if value < 2 ** bits else f"of {bits} bits {value % 2 ** bits} is kept: {words}"

@@ -1,0 +1,53 @@
+"""What tools/check-desk tries the desk program on."""
+from typing import NamedTuple
+
+from records import GREATEST_FIELDS, record
+
+
+class Trial(NamedTuple):
+    """One call: its words, its status, what it prints, parts of what it says on standard error (none: nothing), the files there."""
+
+    words: tuple
+    status: int
+    printed: bytes
+    said: tuple
+    files: dict = {}
+
+
+def edges():
+    """Records of each kind, known or not, with each field at its limits and one past them."""
+    made = []
+    for kind in (*range(0, 13), 128, 255):
+        limits = GREATEST_FIELDS.get(kind, (0, 0, 0))
+        for place, most in enumerate(limits):
+            for value in {0, 1, most, min(most + 1, 255), 255}:
+                fields = [0, 0, 0]
+                fields[place] = value
+                made.append(record(kind, *fields))
+    return b"".join(made)
+
+
+STRIKE = bytes((4, 0, 0, 0))
+LATCHED = b"0400000200000000\n"
+
+TRIALS = (
+    Trial(("listing", "good.batch"), 0, LATCHED + b"end 0\n", (), {"good.batch": b"strike  # latch 2\r\n"}),
+    Trial(("listing", "good.hex"), 0, LATCHED + b"end 0\n", (), {"good.hex": b"\xef\xbb\xbf0400 # a part\n0000"}),
+    Trial(("listing", "good.bin"), 0, LATCHED + b"end 0\n", (), {"good.bin": STRIKE}),
+    Trial(("listing", "--as", "bytes", "good.txt"), 0, LATCHED + b"end 0\n", (), {"good.txt": STRIKE}),
+    Trial(("listing", "wrong.batch"), 2, b"", ("wrong.batch, line 2", "no word 'stirke'", "'strike'", "line 3", "0 to 255"),
+          {"wrong.batch": b"strike\nstirke\nR0 = 256\n"}),
+    Trial(("explain", "wrong.hex"), 2, b"", ("wrong.hex, line 1", "'g'"), {"wrong.hex": b"0g"}),
+    Trial(("listing", "unknown.txt"), 2, b"", ("unknown.txt", ".batch", "--as"), {"unknown.txt": STRIKE}),
+    Trial(("listing", "missing.batch"), 2, b"", ("missing.batch: there is no such file",)),
+    Trial(("listing", "."), 2, b"", ("this is a folder",)),
+    Trial(("listing", "-"), 2, b"", ("standard input", "--as")),
+    Trial(("listing", "empty.batch"), 0, b"end 0\n", ("the batch is empty",), {"empty.batch": b""}),
+    Trial(("listing", "cut.bin"), 0, LATCHED + b"end 3\n", ("09 00", "2 of a record's 4"), {"cut.bin": STRIKE + b"\x09\0"}),
+    Trial(("words", "cut.bin"), 0, b"strike\nbytes 09 00\n", (), {"cut.bin": STRIKE + b"\x09\0"}),
+    Trial(("listing", "long.bin"), 0, b"too long\n", ("5,000 bytes", "4,096", "1,024 records", "fresh"), {"long.bin": bytes(5000)}),
+    Trial(("rooms", "8", "two.batch"), 0, b"0400040001000000\n" + LATCHED, (), {"two.batch": b"strike; strike\n"}),
+    Trial(("rooms", "9000", "two.batch"), 2, b"", ("0 to 8192",), {"two.batch": b"strike; strike\n"}),
+    Trial(("listen", "two.batch"), 2, b"", ("listen", "listing"), {"two.batch": b"strike; strike\n"}),
+    Trial((), 2, b"", ("usage", "explain")),
+)
