@@ -10,17 +10,21 @@ from .terminal import WHO, tell
 
 GOOD, CANNOT, WRONG, STOPPED = 0, 1, 2, 130
 ABOUT = """\
-Replays a customer's register writes on paper models of two chips, the 6545-1 display controller and the MC6883 address
-multiplexer, and says what they would have answered. What the chips do is computed by proved programs; the words around
-it are tested, not proved.
+Replays a customer's register writes on paper models of two chips, the 6545-1
+display controller and the MC6883 address multiplexer, and says what they would
+have answered. What the chips do is computed by proved programs; the words
+around it are tested, not proved.
 """
 MORE = """\
 First steps:
-  ./vorstelpijp explain examples/march.batch     the March case, line by line
-  ./vorstelpijp explain --help                   how a batch is written in words
+  ./vorstelpijp explain examples/march.batch   the March case, line by line
+  ./vorstelpijp explain --help                 how a batch is written in words
 
-A program is proved and built when it is first needed, which takes some minutes and shows how far it is.
-Exit status: 0 well; 1 a program cannot be built or run; 2 the input or the command line is wrong, nothing was run.
+A program is proved and built when it is first needed, which takes some minutes
+and shows how far it is.
+
+Exit status: 0 well; 1 a program cannot be built or run; 2 the input or the
+command line is wrong, and nothing was run.
 """
 
 

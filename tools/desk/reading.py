@@ -154,21 +154,21 @@ def alone(make, shape):
 
 
 FORMS = (
-    Form("R0 = 63", "name R0 and write 63 to it: two records", assign),
+    Form("R0 = 63", "name R0 and write 63 to it (two records)", assign),
     Form("select R16", "name a register", select),
     Form("write 63", "write the register that is named", write),
-    Form("read", "read the register that is named; 'read R16' names it and reads it", read),
+    Form("read", "read the register that is named; 'read R16' names it first", read),
     Form("status", "read the status, L and V", alone(records.status, "status")),
-    Form("clock 20", "20 character clocks; 'clock 0' moves nothing and shows where the controller is", clock),
+    Form("clock 20", "20 character clocks; 'clock 0' is a look where it stands", clock),
     Form("strike", "the light pen fires", alone(records.strike, "strike")),
     Form("locate", "ask for the cell of the last strike", alone(records.locate, "locate")),
-    Form("reset controller", "also 'reset multiplexer'", reset),
-    Form("bus read $A000", "a bus cycle of the processor; also 'bus write $A000'", bus),
-    Form("set V0", f"the bus write that sets a control bit ({BITS})", lambda words: control(words, 1, "set V0")),
-    Form("clear TY", "the bus write that clears it", lambda words: control(words, 0, "clear TY")),
-    Form("fetch 32", "32 display fetches; 'fetch 0' is a look", fetch),
+    Form("reset controller", "reset a chip; also 'reset multiplexer'", reset),
+    Form("bus read $A000", "a cycle of the processor; also 'bus write $A000'", bus),
+    Form("set V0", "the bus write that sets a control bit", lambda words: control(words, 1, "set V0")),
+    Form("clear TY", f"or clears it: {BITS}", lambda words: control(words, 0, "clear TY")),
+    Form("fetch 32", "32 display fetches; 'fetch 0' is a look where they stand", fetch),
     Form("levels HS 0 DA0 1", "the levels of HS and DA0", levels),
-    Form("bytes 0a 01 02 03", "bytes as they stand, in hex, for a record that is to be damaged", as_they_stand),
+    Form("bytes 0a 01 02 03", "a record as it is, in hex, when it is to be damaged", as_they_stand),
 )
 BY_FIRST_WORD = {form.first: form for form in FORMS if form.read is not assign}
 

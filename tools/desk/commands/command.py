@@ -8,12 +8,13 @@ from ..reading import FORMS
 from ..terminal import tell
 
 HOW_A_FILE_IS_READ = """\
-FILE is a batch: in words (.batch), as commented hex (.hex) or as bytes (.bin). --as says what any other
-file is, and what comes on standard input, for which FILE is '-'. It is read and never written.
+FILE is a batch: in words (.batch), as commented hex (.hex) or as bytes (.bin).
+--as says what any other file is, and what comes on standard input, for which
+FILE is '-'. It is read and never written.
 """
 HOW_WORDS_ARE_WRITTEN = """\
-A batch in words has one record or a few a line, with ';' between them. '#' begins a comment. Numbers are
-decimal, or hex with '$'.
+A batch in words has one record or a few a line, with ';' between them. '#'
+begins a comment. Numbers are decimal, or hex with '$'.
 
 {}
 """

@@ -5,9 +5,10 @@ from ..terminal import Paper
 from .command import batch_command, batch_of
 
 ABOUT = """\
-Replays the batch on fresh chips and prints its listing, each line with the record before it and both in words
-behind it, with the comments of the file between them. A refused record has its reason, and where a refusal comes
-for the first time, what to do about it. Lines are folded on a terminal only.
+Replays the batch on fresh chips and prints its listing, each line with the
+record before it and both in words behind it, and the comments of the file
+between them. A refused record has its reason, and where a refusal comes for the
+first time, what to do about it. Lines are folded on a terminal only.
 """
 
 

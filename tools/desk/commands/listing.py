@@ -2,8 +2,9 @@
 from .command import batch_command, batch_of, replayed
 
 ABOUT = """\
-Replays the batch on fresh chips and prints what the proved program 'listing' prints, byte for byte: for each
-record its answer in 16 hex digits, then 'end' and how the replay ended. 'explain' has it in words.
+Replays the batch on fresh chips and prints what the proved program 'listing'
+prints, byte for byte: for each record its answer in 16 hex digits, then 'end'
+and how the replay ended. 'explain' has it in words.
 """
 
 

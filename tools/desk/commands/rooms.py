@@ -6,10 +6,12 @@ from .command import add_batch, batch_command, batch_of, replayed
 
 MOST_ROOM = MOST_BATCH_BYTES // RECORD_BYTES * ANSWER_BYTES
 ABOUT = f"""\
-Replays the batch into an output of BYTES bytes, 0 to {MOST_ROOM:,}, and prints what the proved program 'rooms' prints, byte
-for byte. The first line is the ending number (one byte), the bytes taken and the answers written (two bytes each), and
-three zeros. The others are the output, eight bytes a line: every byte was $A5 before, so what the replay left alone
-shows. The ending is 4 where the output had no room for another answer of {ANSWER_BYTES} bytes.
+Replays the batch into an output of BYTES bytes, 0 to {MOST_ROOM:,}, and prints what
+the proved program 'rooms' prints, byte for byte. The first line is the ending
+number (one byte), the bytes taken and the answers written (two bytes each), and
+three zeros. The others are the output, eight bytes a line: every byte was $A5
+before, so what the replay left alone shows. The ending is 4 where the output
+had no room for another answer of {ANSWER_BYTES} bytes.
 """
 
 

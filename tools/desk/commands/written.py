@@ -3,14 +3,17 @@ from ..writing import as_hex, as_words
 from .command import batch_command, batch_of
 
 WORDS = """\
-Prints the batch in words, with the comments of its file. Reading the words gives the same bytes again: a record that
-is damaged, and one to three bytes at the end, are written as bytes.
+Prints the batch in words, with the comments of its file. Reading the words
+gives the same bytes again: a record that is damaged, and one to three bytes at
+the end, are written as bytes.
 """
 HEX = """\
-Prints the batch as hex, a record a line with what it is behind it, and with the comments of its file.
+Prints the batch as hex, a record a line with what it is behind it, and with the
+comments of its file.
 """
 BYTES = """\
-Writes the bytes of the batch, four to a record, to standard output; meant for a file: 'bytes FILE > NEW.bin'.
+Writes the bytes of the batch, four to a record, to standard output. Meant for a
+file: './vorstelpijp bytes FILE > NEW.bin'.
 """
 
 COMMANDS = (

@@ -1,0 +1,130 @@
+"""Answers in words, and the explained listing."""
+import unittest
+
+from commands import CannotRun
+from desk import refusals
+from desk.answers import words_of
+from desk.batch import Batch, Remark
+from desk.explaining import explain
+from desk.reading import read_line
+from desk.settings import meaning
+from desk.terminal import BOLD, Paper
+
+# A record, its answer, and what is said of it.
+ANSWERED = (
+    ("status", "0200010000000000", "$00, neither L nor V"),
+    ("status", "0200014000000000", "$40, L (a strike not read yet)"),
+    ("status", "0200016000000000", "$60, L (a strike not read yet), V (below the rows shown)"),
+    ("read", "0200014000000000", "$40"),
+    ("read", "0200000000000000", "not driven"),
+    ("clock 1", "0300000100130000", "MA $0001, RA 0, picture, display enable, VSYNC"),
+    ("clock 1", "03003fff1f0c0000", "MA $3FFF, RA 31, outside the picture, cursor, HSYNC"),
+    ("clock 1", "0300000000000000", "MA $0000, RA 0, outside the picture"),
+    ("strike", "0400000301000000", "latch $0003, in the picture"),
+    ("strike", "0400123400000000", "latch $1234, outside the picture"),
+    ("bus read $A000", "0600021000000000", "select 2 (ROM 1), 16 crystal ticks (slow)"),
+    ("bus read $A000", "0600000803000040", "select 0 (RAM), 8 crystal ticks (fast), bank 0, row $00, column $40, barred pair"),
+    ("bus write $1234", "0600071001013408", "select 7 (RAM write), 16 crystal ticks (slow), bank 1, row $34, column $08"),
+    ("set TY", "0600071004000000", "select 7 (control bit), 16 crystal ticks (slow)"),
+    ("bus read $FF60", "0600071000000000", "select 7 (no device), 16 crystal ticks (slow)"),
+    ("fetch 1", "0700040100011001", "display address $0401, bank 0, row $01, column $10, with RAM access"),
+    ("fetch 1", "0700040200021000", "display address $0402, bank 0, row $02, column $10, without RAM access"),
+    ("levels HS 0 DA0 0", "0800010808000000", "HS falls, 8 rows refreshed from row $08 on"),
+    ("levels HS 0 DA0 0", "0800010000000000", "HS falls, no refresh"),
+    ("levels HS 1 DA0 0", "0800020000000000", "HS rises"),
+    ("levels HS 1 DA0 1", "0800030000000000", "HS rises with preload"),
+    ("levels HS 1 DA0 0", "0800000000000000", "no edge"),
+    ("locate", "0900010200000000", "row 1, column 2"),
+    ("strike", "0400000301000000", "latch $0003, in the picture"),
+    ("write 3", "0100000000000000", ""),
+    ("reset controller", "0500000000000000", ""),
+)
+MEANINGS = {
+    (0, 63): "64 characters in a line", (0, 0): "1 character in a line", (3, 0x28): "HSYNC 8 characters wide, VSYNC 2 lines high",
+    (3, 0x01): "HSYNC 1 character wide, VSYNC 16 lines high", (4, 200): "of 7 bits 72 is kept: 73 rows in a frame", (5, 1): "1 adjust line",
+    (8, 0x34): "addresses by row and column, display enable delayed, cursor delayed", (8, 0): "addresses in one run, no delay",
+    (10, 0x66): "cursor from line 6 on, blinking, 16 frames on and 16 off", (10, 0x20): "cursor from line 0 on, never shown",
+    (12, 0xFF): "of 6 bits 63 is kept: start address $3Fxx", (15, 7): "cursor address $xx07", (16, 5): "cannot be written, so nothing changes",
+    (31, 5): "cannot be written, so nothing changes",
+}
+
+
+def explained(statement, listing, paper=Paper()):
+    """The lines of an explained listing of words."""
+    return explain(Batch(read_line(statement)), listing, paper).splitlines()
+
+
+class Answers(unittest.TestCase):
+    """What each answer says."""
+
+    def test_answers(self):
+        for statement, answer, said in ANSWERED:
+            with self.subTest(f"{statement} {answer}"):
+                self.assertEqual(words_of(read_line(statement), bytes.fromhex(answer)), said)
+
+    def test_what_a_byte_means_to_a_register(self):
+        for (number, value), said in MEANINGS.items():
+            with self.subTest(f"R{number} = {value}"):
+                self.assertEqual(meaning(number, value), said)
+
+    def test_every_byte_means_something_to_every_register(self):
+        for number in range(32):
+            self.assertTrue(all(meaning(number, value) for value in range(256)))
+
+
+class Explained(unittest.TestCase):
+    """The listing with words beside it."""
+
+    def test_a_line(self):
+        self.assertEqual(explained("clock 1", "0300000100130000\nend 0\n"), [
+            "03000100  0300000100130000  clock 1: MA $0001, RA 0, picture, display enable, VSYNC",
+            "          end 0             every record was answered"])
+
+    def test_a_refusal_with_its_reason_and_what_to_do_once(self):
+        lines = explained("locate; locate; bytes 05 00 07 00", "0905000000000000\n0905000000000000\n0502000000000000\nend 0\n")
+        self.assertEqual(lines[0], "09000000  0905000000000000  locate: refused 5, the pen has not fired since the controller was reset")
+        self.assertTrue(lines[1].startswith(28 * " " + "-> Put a strike"))
+        self.assertEqual(lines[2], lines[0])
+        self.assertIn("reset: lo is 7 and has to be 0 or 1: refused 2", lines[3])
+        self.assertEqual(len(lines), 6)
+
+    def test_each_refusal_has_its_reason_and_its_advice(self):
+        for number in (1, 2, 5, 6, 7, 8):
+            self.assertIn(number, refusals.REASONS)
+            self.assertIn(number, refusals.ADVICE)
+
+    def test_bytes_behind_the_last_record(self):
+        lines = explained("strike; bytes 09 00", "0400000200000000\nend 3\n")
+        self.assertEqual(len(lines), 2)
+        self.assertIn("end 3             the last bytes, 09 00, are 2 of a record's 4", lines[1])
+
+    def test_too_long(self):
+        text = explain(Batch(bytes(5000)), "too long\n", Paper())
+        self.assertIn("too long: the batch has 5,000 bytes", text)
+        self.assertIn("1,024 records", text)
+
+    def test_headings_stand_between_the_lines(self):
+        batch = Batch(read_line("strike; locate"), (Remark(4, "And now", False), Remark(8, "behind", True), Remark(8, None, False)))
+        lines = explain(batch, "0400000200000000\n0906000000000000\nend 0\n", Paper()).splitlines()
+        self.assertEqual((lines[1], lines[4]), ("# And now", ""))
+
+    def test_what_is_no_listing_of_the_batch(self):
+        for listing in ("", "end 0\n", "0400000200000000\n", "0400000200000000\n0400000200000000\nend 0\n", "04000002000000\nend 0\n", "too short\n"):
+            with self.subTest(listing):
+                with self.assertRaises(CannotRun):
+                    explained("strike", listing)
+
+    def test_a_narrow_terminal(self):
+        wide = " ".join(explained("locate", "0906000000000000\nend 0\n"))
+        lines = explained("locate", "0906000000000000\nend 0\n", Paper(72, True))
+        self.assertTrue(all(len(line.replace(BOLD, "").replace("\033[0m", "")) <= 72 for line in lines), lines)
+        self.assertGreater(len(lines), 5)
+        self.assertEqual(" ".join(lines).replace(BOLD, "").replace("\033[0m", "").split(), wide.split())
+        self.assertIn(BOLD, lines[0])
+
+    def test_a_pipe_has_nothing_but_the_text(self):
+        self.assertNotIn("\033", "".join(explained("locate", "0906000000000000\nend 0\n")))
+
+
+if __name__ == "__main__":
+    unittest.main()
