@@ -1,13 +1,18 @@
-"""The proved programs and the second one: building them, and what they make of an input."""
+"""The proved programs and the second one: building them, the words that run them, and what they make of an input."""
 import collections
 import concurrent.futures
 import itertools
 import subprocess
+from typing import NamedTuple
 
 from commands import TOP, CannotRun, need, quietly
+from compared import NAMES, PROGRAMS
+from compared.program import Program
+from kit import environment, running
+from progress import Progress
+from proving import prove
 
 SECOND = TOP / "second" / "target" / "release" / "second"
-PROVED = {name: TOP / "target" / "bin" / name for name in ("listing", "rooms")}
 CARGO_WORDS = ("--release", "--offline", "--locked", "--target-dir")
 WORKERS = 2
 WAITING = 16  # pieces of work handed out ahead of the one whose turn it is
@@ -17,32 +22,36 @@ SECONDS_FOR_ONE = 300
 Outcome = collections.namedtuple("Outcome", "text problem")
 
 
-def build():
-    """Builds all programs, once."""
+class Pair(NamedTuple):
+    """A program under comparison: the words that run the proved one, and those that run the second one in its part."""
+
+    program: Program
+    proved: list
+    second: list
+
+
+def build(who):
+    """Builds all programs, once, and tells which. who is the tool that asks for it."""
     need("rt")
     need("cargo")
     if not (TOP / "second").is_dir():
         raise CannotRun("the folder second, with the second program, is missing")
+    Progress(who).say("building the second program with cargo")
     quietly(["cargo", "build", *CARGO_WORDS, "target"], TOP / "second")
-    quietly(["rt", "check", *PROVED], TOP)
+    prove(who, NAMES)
     see_built("though its build did not fail")
 
 
 def see_built(otherwise):
     """Sees that all programs are there."""
-    for path in (SECOND, *PROVED.values()):
+    for path in (SECOND, *(program.proved for program in PROGRAMS)):
         if not path.is_file():
             raise CannotRun(f"{path.relative_to(TOP)} is missing, {otherwise}")
 
 
-def proved_words(program):
-    """The words that run a proved program as it is built."""
-    return [str(TOP / "tools" / "run"), "--no-build", program]
-
-
-def second_words(program, second=SECOND):
-    """The words that run the second program in the part of a proved one."""
-    return [str(second)] + (["--room"] if program == "rooms" else [])
+def pairs_with(kit):
+    """All programs under comparison, as they are built. The kit is found once; tools/run would look for it in each run."""
+    return {program: Pair(program, running(kit, program.proved), program.second_words(SECOND)) for program in PROGRAMS}
 
 
 def problem_of(status, said):
@@ -53,11 +62,16 @@ def problem_of(status, said):
     return f"ended well, but said on standard error: {words}" if said else None
 
 
+def run_on(command, given, seconds):
+    """Runs a program on an input, without settings of the emulator. Gives how it ends, and what it says on both outputs."""
+    return subprocess.run(command, input=given, stdout=subprocess.PIPE, stderr=subprocess.PIPE,
+                          timeout=seconds, env=environment())
+
+
 def outcome_of(command, given, seconds=SECONDS_FOR_ONE):
     """What a program prints for an input, and what went wrong with it, if anything did."""
     try:
-        done = subprocess.run(command, input=given, stdout=subprocess.PIPE,
-                              stderr=subprocess.PIPE, timeout=seconds)
+        done = run_on(command, given, seconds)
     except subprocess.TimeoutExpired:
         return Outcome("", f"did not end within {seconds} seconds")
     return Outcome(done.stdout.decode("ascii", errors="replace"), problem_of(done.returncode, done.stderr))

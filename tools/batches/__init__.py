@@ -4,6 +4,9 @@ so that any batch of any run can be made again."""
 import random
 from typing import NamedTuple
 
+from compared import LISTING, ROOMS
+from compared.program import Program
+from compared.rooms import in_room
 from records import ANSWER_BYTES, GREATEST_FIELDS, MOST_BATCH_BYTES, RECORD_BYTES, counted, joined, record
 from . import controller, corners, multiplexer
 
@@ -15,13 +18,8 @@ class Batch(NamedTuple):
 
     number: int
     sort: str
-    program: str  # "listing" or "rooms"
-    input: bytes  # of rooms: two bytes for the room, then the batch
-
-    @property
-    def records(self):
-        """The batch itself, without the room in front of it."""
-        return self.input[2:] if self.program == "rooms" else self.input
+    program: Program
+    input: bytes
 
 
 def any_bytes(rng, length):
@@ -166,11 +164,6 @@ def some_room(rng, need):
     return short if rng.randrange(10) < 7 else enough
 
 
-def in_room(room, batch):
-    """The input of rooms: two bytes for the room, then the batch."""
-    return room.to_bytes(2, "big") + batch
-
-
 def rooms(rng):
     """A room for the answers and a batch to replay into it: the ways to run out of room (ending 4)."""
     draw = rng.randrange(12)
@@ -199,50 +192,58 @@ def nameless_rooms(rng):
     return any_bytes(rng, rng.randrange(2))
 
 
-# How many of each hundred batches are of each sort.
+# How many of each hundred batches are of each sort, by the program that reads them.
 SHARES = {
-    random_bytes: 4,
-    well_formed: 8,
-    nearly_well_formed: 4,
-    controller.pictures: 15,
-    controller.collisions: 8,
-    controller.no_cell_fits: 4,
-    controller.outside_the_picture: 4,
-    controller.register_widths: 3,
-    corners.greatest_counts: 2,
-    corners.reloaded_pulses: 2,
-    corners.late_pins: 3,
-    corners.cursor_lines: 2,
-    multiplexer.multiplexer_work: 12,
-    both_chips: 4,
-    damaged: 4,
-    cut_short: 3,
-    empty: 1,
-    full: 1,
-    over_long: 2,
-    rooms: 11,
-    full_rooms: 1,
-    over_long_rooms: 1,
-    nameless_rooms: 1,
+    LISTING: {
+        random_bytes: 4,
+        well_formed: 8,
+        nearly_well_formed: 4,
+        controller.pictures: 15,
+        controller.collisions: 8,
+        controller.no_cell_fits: 4,
+        controller.outside_the_picture: 4,
+        controller.register_widths: 3,
+        corners.greatest_counts: 2,
+        corners.reloaded_pulses: 2,
+        corners.late_pins: 3,
+        corners.cursor_lines: 2,
+        multiplexer.multiplexer_work: 12,
+        both_chips: 4,
+        damaged: 4,
+        cut_short: 3,
+        empty: 1,
+        full: 1,
+        over_long: 2,
+    },
+    ROOMS: {
+        rooms: 11,
+        full_rooms: 1,
+        over_long_rooms: 1,
+        nameless_rooms: 1,
+    },
 }
-ROOM_SORTS = (rooms, full_rooms, over_long_rooms, nameless_rooms)
+
+
+def name_of(sort):
+    """A sort in words, for the reports."""
+    return sort.__name__.replace("_", " ")
 
 
 def dealt():
-    """The sorts of a hundred batches in order, each sort spread evenly over them."""
+    """The sorts of a hundred batches in order, each sort spread evenly over them and with the program that reads it."""
     places = []
-    for sort, share in SHARES.items():
-        places += [((turn + 0.5) / share, sort.__name__, sort) for turn in range(share)]
-    return [sort for _place, _name, sort in sorted(places, key=lambda item: item[:2])]
+    for program, shares in SHARES.items():
+        for sort, share in shares.items():
+            places += [((turn + 0.5) / share, sort.__name__, sort, program) for turn in range(share)]
+    return [(sort, program) for _place, _name, sort, program in sorted(places, key=lambda item: item[:2])]
 
 
 DEAL = dealt()
-SORT_NAMES = [sort.__name__.replace("_", " ") for sort in SHARES]
+SORT_NAMES = [name_of(sort) for shares in SHARES.values() for sort in shares]
 
 
 def make_batch(seed, number):
     """The batch with this number of the run with this seed; numbers start at 1."""
-    sort = DEAL[(number - 1) % len(DEAL)]
+    sort, program = DEAL[(number - 1) % len(DEAL)]
     rng = random.Random(f"{seed} {number}")
-    program = "rooms" if sort in ROOM_SORTS else "listing"
-    return Batch(number, sort.__name__.replace("_", " "), program, sort(rng))
+    return Batch(number, name_of(sort), program, sort(rng))

@@ -4,7 +4,7 @@ import shutil
 
 from batches.outputs import describe_difference
 from commands import TOP, CannotRun, attempt
-from programs import CARGO_WORDS, outcome_of, second_words
+from programs import CARGO_WORDS, outcome_of
 
 SECONDS_FOR_ONE = 20  # a changed program that needs more hangs: the unchanged one takes less than one
 BY_COMPARISON, BY_TESTS, BY_NEITHER = "comparison", "tests", "neither"
@@ -42,7 +42,7 @@ class Workshop:
     def first_difference(self, proved):
         """The number of the first batch on which the program here is not as the proved one, or None."""
         for batch, outcome in proved:
-            here = outcome_of(second_words(batch.program, self.program), batch.input, SECONDS_FOR_ONE)
+            here = outcome_of(batch.program.second_words(self.program), batch.input, SECONDS_FOR_ONE)
             if describe_difference(batch, outcome, here):
                 return batch.number
         return None

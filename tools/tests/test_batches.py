@@ -1,9 +1,10 @@
 """What the batches are made from: the seeds, the shares and the corners."""
 import unittest
 
-from batches import DEAL, SHARES, make_batch
-from records import clocks, fetches
+from batches import DEAL, SHARES, SORT_NAMES, make_batch
 from batches.seeds import FIXED_SEED, OF_COMMIT, WHOLE_RUN, seeds_of, share
+from compared import PROGRAMS
+from records import clocks, fetches
 
 COMMIT = "0000199101234567" + 24 * "f"
 BATCHES = range(1, share(WHOLE_RUN, 1 + OF_COMMIT) + 1)
@@ -13,8 +14,15 @@ class Batches(unittest.TestCase):
     """A run of one seed, as the gate has it."""
 
     def test_the_shares_are_of_a_hundred(self):
-        self.assertEqual(sum(SHARES.values()), 100)
+        self.assertEqual(sum(share_of for shares in SHARES.values() for share_of in shares.values()), 100)
         self.assertEqual(len(DEAL), 100)
+
+    def test_each_program_has_batches(self):
+        self.assertEqual(set(SHARES), set(PROGRAMS))
+        self.assertEqual({make_batch(FIXED_SEED, number).program for number in BATCHES}, set(PROGRAMS))
+
+    def test_each_sort_is_of_one_program(self):
+        self.assertEqual(len(set(SORT_NAMES)), len(SORT_NAMES))
 
     def test_a_batch_follows_from_its_seed_and_its_number(self):
         self.assertEqual(make_batch(1, 7), make_batch(1, 7))

@@ -3,7 +3,9 @@ import pathlib
 import sys
 import unittest
 
-from edges import LENGTHS, Pair, check
+from compared import PROGRAMS
+from edges import LENGTHS, check
+from programs import Pair
 
 STAND_IN = pathlib.Path(__file__).with_name("stand_in.py")
 START = 'if test -d /dev/stdin; then exec "$@" folder </dev/null; fi; exec "$@" file'
@@ -16,7 +18,7 @@ def stand_in(name, fault="none"):
 
 def fault_found(fault, lengths):
     """What is found where both proved programs have a fault and the second program has none."""
-    pairs = [Pair(name, stand_in(name, fault), stand_in(name)) for name in ("listing", "rooms")]
+    pairs = [Pair(program, stand_in(program.name, fault), stand_in(program.name)) for program in PROGRAMS]
     return check(pairs, lengths)
 
 

@@ -1,0 +1,10 @@
+"""The programs under comparison: each is proved, and the second program does the same in its part.
+
+A further one is a module here with one object, which is named in PROGRAMS. The sorts of batches that it reads have their shares
+in tools/batches, under that object."""
+from .listing import LISTING
+from .program import NotReadable
+from .rooms import ROOMS
+
+PROGRAMS = (LISTING, ROOMS)
+NAMES = tuple(program.name for program in PROGRAMS)

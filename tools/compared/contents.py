@@ -1,0 +1,16 @@
+"""What the inputs at a program's edges hold."""
+import random
+
+# One record of each kind and some that are refused.
+GOOD_BATCH = bytes.fromhex(
+    "01000001 01000102 01000006 01000101 05000000 03000100 04000000 09000000 02000000 06a00001"
+    "07000010 08000001 08000101 0affffff 04000001 030000ff")
+
+
+def contents(length):
+    """Inputs of one length: zeros, good records, and bytes without any plan; of no length one alone."""
+    plan = random.Random(length)
+    yield "zeros", bytes(length)
+    if length:
+        yield "good records", (GOOD_BATCH * (length // len(GOOD_BATCH) + 1))[:length]
+        yield "any bytes", bytes(plan.randrange(256) for _ in range(length))
