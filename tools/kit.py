@@ -5,11 +5,11 @@ import pathlib
 import platform
 
 from commands import TOP, CannotRun, attempt, need, quietly
+from proving import ARCHIVE
 
 DIRECT = "x86_64"  # the kind of machine that proved code is compiled for
 TARGET = "x86_64-unknown-linux-gnu"
 INCLUDE = TOP / "include"
-ARCHIVE = TOP / "target" / "staticlib" / "libexports.a"
 
 # emulator: None on the kind of machine that runs proved code directly
 Kit = collections.namedtuple("Kit", "machine toolchain linker emulator")
@@ -32,11 +32,6 @@ def find_kit():
         if not os.access(emulator, os.X_OK):
             raise CannotRun(f"the kit at {home} has no emulator for {machine}, and proved code is for {DIRECT}")
     return Kit(machine, own / "toolchain", own / "bin" / "rattle-link", emulator)
-
-
-def prove_archive():
-    """The proved calls as an archive that C and Rust link."""
-    quietly(["rt", "staticlib", "exports"])
 
 
 def need_archive(tool):

@@ -1,4 +1,4 @@
-"""Has rt prove and build programs, and tells what is being proved and how far it is."""
+"""Has rt prove and build programs and the archive, and tells what is being proved and how far it is."""
 import contextlib
 import fcntl
 import queue
@@ -13,6 +13,8 @@ from progress import Progress
 
 BINARIES = TOP / "target" / "bin"
 LOGS = TOP / "target" / "log"
+ARCHIVE_CRATE = "exports"
+ARCHIVE = TOP / "target" / "staticlib" / f"lib{ARCHIVE_CRATE}.a"
 PROVED = re.compile(r"rt: (\S+) proved \((\d+ s)?")
 A_MOMENT = 1.0  # seconds; what is proved already takes less, and then nothing is told
 LINES_SHOWN = 40  # of what rt said, where it failed
@@ -98,16 +100,25 @@ def follow(process, proving, progress, names):
     progress.end()
 
 
-def prove(who, names):
-    """Proves and builds programs, with all that they stand on. who is the tool that asks for it."""
+def have_rt(who, task, names, made):
+    """Has rt do a task for crates, by which files are made. who is the tool that asks for it."""
     need("rt")
     progress = Progress(who)
     with in_turn(progress):
         proving = Proving(names)
-        with subprocess.Popen(["rt", "check", *names], cwd=TOP, stdin=subprocess.DEVNULL, stdout=subprocess.PIPE,
+        with subprocess.Popen(["rt", task, *names], cwd=TOP, stdin=subprocess.DEVNULL, stdout=subprocess.PIPE,
                               stderr=subprocess.STDOUT, text=True, errors="replace") as process:
             follow(process, proving, progress, names)
-    missing = [name for name in names if not (BINARIES / name).is_file()]
-    if process.returncode or missing:
+    if process.returncode or not all(path.is_file() for path in made):
         told = "\n".join(proving.said[-LINES_SHOWN:])
-        raise CannotRun(f"'rt check {' '.join(names)}' failed, saying:\n{told}")
+        raise CannotRun(f"'rt {task} {' '.join(names)}' failed, saying:\n{told}")
+
+
+def prove(who, names):
+    """Proves and builds programs, with all that they stand on."""
+    have_rt(who, "check", names, [BINARIES / name for name in names])
+
+
+def prove_archive(who):
+    """Proves the calls for other languages, and builds the archive that C and Rust link."""
+    have_rt(who, "staticlib", [ARCHIVE_CRATE], [ARCHIVE])

@@ -68,7 +68,7 @@ class Program:
 
 
 def grouped(batch):
-    """A batch in hex, a record to a group; tools/unhex reads it."""
+    """A batch in hex, a record to a group; the desk program reads it with --as hex."""
     groups = [one.hex() for one in records_of(batch)]
     lines = [" ".join(groups[at:at + RECORDS_PER_LINE]) for at in range(0, len(groups), RECORDS_PER_LINE)]
     return "\n".join(f"  {line}" for line in lines) or "  (no byte)"

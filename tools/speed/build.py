@@ -2,9 +2,10 @@
 import re
 
 from commands import TOP, CannotRun, attempt, need
-from kit import ARCHIVE, TARGET, c_compiler, compile_c, link, need_archive, prove_archive
+from kit import TARGET, c_compiler, compile_c, link, need_archive
+from proving import ARCHIVE, prove_archive
 from .pages import on_pages
-from .progress import say
+from .progress import WHO, say
 
 SOURCES = TOP / "tools" / "speed"
 ROOM = TOP / "target" / "bench"
@@ -77,8 +78,7 @@ def build(kit, prove):
     made = compile_rust(kit, rust)
     compile_c(c_compiler(kit), SOURCES / "harness.c", harness)
     if prove:
-        say("proving and building crates/exports (minutes where nothing is proved yet)")
-        prove_archive()
+        prove_archive(WHO)
     need_archive("tools/bench")
     link(kit, program, [harness, on_own_pages(rust)], on_own_pages(ARCHIVE))
     return program, made

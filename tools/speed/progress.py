@@ -1,5 +1,7 @@
 """How a run of tools/bench tells what it does, and what stops it."""
-import sys
+from progress import Progress
+
+WHO = "bench"
 
 
 class Differs(Exception):
@@ -8,4 +10,4 @@ class Differs(Exception):
 
 def say(words):
     """Tells how far the run is."""
-    print(f"bench: {words}", file=sys.stderr, flush=True)
+    Progress(WHO).say(words)

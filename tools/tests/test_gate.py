@@ -8,8 +8,8 @@ import subprocess
 from tests.trees import TreeTest
 
 GATE = pathlib.Path(__file__).resolve().parents[2] / ".ci/run"
-TOOLS = ("check-contracts", "check-docs", "check-edits", "check-examples", "check-programs", "check-linked", "compare")
-COMMANDS = ("rt", "cargo", "git")
+TOOLS = ("check-contracts", "check-docs", "check-edits", "check-desk", "check-examples", "check-programs", "check-linked", "compare")
+COMMANDS = ("rt", "cargo", "git", "shellcheck")
 CLOSING = "7 passed, 0 failed"
 # It says its own words, and ends badly where FAULT is the beginning of them.
 STAND_IN = f"""#!/bin/sh
@@ -20,9 +20,9 @@ case "$said" in "${{FAULT:-none}}"*) exit 1 ;; esac
 """
 STEPS = (
     "the second program's formatting", "the second program's tests", "the second program's build", "the second program's lints",
-    "formatting", "the public contracts", "the rules and the promises", "the tools' own tests", "what the must-fail edits edit",
+    "formatting", "shell scripts", "the public contracts", "the rules and the promises", "the tools' own tests", "what the must-fail edits edit",
     "proofs, must-fail edits and programs", "what the must-fail edits are refused for", "the examples through the second program",
-    "the examples through the proved listing", "the programs at their edges", "the header for C and the linked calls",
+    "the examples and the desk", "the programs at their edges", "the header for C and the linked calls",
     "the comparison of both programs",
 )
 
