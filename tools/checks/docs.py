@@ -2,10 +2,10 @@
 import re
 
 from checks import markdown, places, promises, proofs, rules
-from checks.things import Things
+from checks.things import DESK, Things, desk_fault
 
 PAGES = ("README.md", "docs/PROMISES.md", "docs/RULES.md", "docs/DECISIONS.md", "docs/EVIDENCE.md", "docs/CHECK-TIMES.md",
-         "docs/PROVING.md")
+         "docs/PROVING.md", "docs/LISTING.md")
 TIMES = "docs/CHECK-TIMES.md"
 TIMES_HEAD = ("crate", "functions", "seconds", "memory, MB", "must-fail edits")
 
@@ -44,6 +44,17 @@ def check_counts(things, page, text):
     for match in re.finditer(r"\b([\d,]+)\s+must-fail\s+edits", text):
         if int(match.group(1).replace(",", "")) != len(things.edits):
             yield f"{page}:{text.count(chr(10), 0, match.start()) + 1}: {match.group(1)} must-fail edits, and there are {len(things.edits)}"
+
+
+def check_desk(things, page, text):
+    """Yields each call of the desk in a block of code that is none, and each explained line there that no example has."""
+    lines = [line[4:] for line in text.split("\n") if markdown.is_code(line)]
+    shown = {line for path in things.top.glob("examples/*.explained") for line in path.read_text().splitlines()}
+    for line in lines:
+        if line.startswith(DESK) and desk_fault(line):
+            yield f"{page}: {desk_fault(line)}"
+        if re.match(r"[0-9a-f]{8}  [0-9a-f]{16}  ", line) and line not in shown:
+            yield f"{page}: no example has the line {line}"
 
 
 def check_form(page, text):
@@ -103,9 +114,9 @@ def check(top):
         return wrong
     for page in PAGES:
         text = (top / page).read_text()
-        for part in (check_quotes, check_paths, check_hidden, check_counts, check_crates):
+        for part in (check_quotes, check_paths, check_hidden, check_counts, check_crates, check_desk):
             wrong += part(things, page, text)
-    for page in ("README.md", "docs/DECISIONS.md", "docs/EVIDENCE.md", "docs/PROVING.md", TIMES):
+    for page in ("README.md", "docs/DECISIONS.md", "docs/EVIDENCE.md", "docs/PROVING.md", "docs/LISTING.md", TIMES):
         wrong += check_form(page, (top / page).read_text())
     wrong += rules.check(things)
     wrong += promises.check(things)

@@ -2,6 +2,8 @@
 import re
 
 from checks import antt, contracts, crates, source
+from desk.commands import COMMANDS
+from desk.reading import NotWords, read_line
 
 # Quoted things that are no part of the repository: the record's fields and the listing's words as document 01 has them, forms of the
 # languages, commands and what they print.
@@ -13,7 +15,24 @@ KNOWN = {
     "abbrev", "unfoldable", "unfolding", "let", "let mut", "match", "&", "&&", "eqb", "Statement", "Tie",
     "c", "refl", "cc", "rw", "ap", "search needs", "search cases", "search cases depth 9",
 }
-PATTERNS = (r"[0-9a-f]{16}", r"\$[0-9A-F]{2,4}", r"\d+", r"R\d{1,2}", r"B\d{1,2}", r"Need-[\w-]+", r"\.\.-spec", r"(?:c )?\.\w+(?: \.\w+)*")
+PATTERNS = (r"end [034]", r"--as \w+", r"[-#;$]", r"[0-9a-f]{16}", r"\$[0-9A-F]{2,4}", r"\d+", r"R\d{1,2}", r"B\d{1,2}", r"Need-[\w-]+", r"\.\.-spec", r"(?:c )?\.\w+(?: \.\w+)*")
+
+DESK = "./vorstelpijp"
+
+
+def is_statement(quoted):
+    """Whether a quoted thing is a statement of a batch in words."""
+    try:
+        return bool(read_line(quoted))
+    except NotWords:
+        return False
+
+
+def desk_fault(call):
+    """Why a call of the desk program is none, or nothing where it is one."""
+    words = call.split()
+    known = {command.name for command in COMMANDS}
+    return "" if words[0] == DESK and (len(words) == 1 or words[1] in known) else f"`{call}` is no call of the desk program"
 
 
 class Things:
@@ -126,8 +145,10 @@ class Things:
 
     def fault_of(self, quoted):
         """Why a quoted thing names nothing, or nothing where it does."""
-        if quoted in KNOWN or any(re.fullmatch(pattern, quoted) for pattern in PATTERNS):
+        if quoted in KNOWN or any(re.fullmatch(pattern, quoted) for pattern in PATTERNS) or is_statement(quoted):
             return ""
+        if quoted.startswith(DESK):
+            return desk_fault(quoted)
         if re.match(r"(?:rt|tools/\S+) \S", quoted):
             return self.command_fault(quoted.split(" "))
         place = re.fullmatch(r"(\S+/\S+\.\w+): (\S+)", quoted)

@@ -5,7 +5,8 @@ from checks import docs, fixed, promises, statements
 from tests.trees import TreeTest
 
 RULES, PROMISES, DECISIONS, TIMES = "docs/RULES.md", "docs/PROMISES.md", "docs/DECISIONS.md", "docs/CHECK-TIMES.md"
-EVIDENCE, PROVING = "docs/EVIDENCE.md", "docs/PROVING.md"
+EVIDENCE, PROVING, LISTING = "docs/EVIDENCE.md", "docs/PROVING.md", "docs/LISTING.md"
+EXPLAINED = "04000000  0400000200000000  strike: latch $0002, outside the picture"
 ONE = "crates/alpha/specs/One.antt"
 FILE = promises.FILE
 HEAD = "| promise | statement | proof | restated as | refused |\n|---|---|---|---|---|\n"
@@ -107,6 +108,15 @@ An entry `alpha: oneOf` names a thing.
     DECISIONS: "# Decisions\n\nSee `alpha/src/width.rt`, `Width::counted`, `alpha::Width`, `Width::MASKS`, `oneOf`\nand `alpha::one`.\n",
     EVIDENCE: "# Evidence\n\n| tried | closed by |\n|---|---|\n| one | `alpha` |\n",
     PROVING: "# Proving\n\n`Need-returns-2` of `c .before .f .ensures`; `rt dev alpha`, `tools/check-docs --all`.\n",
+    LISTING: f"""# Listing
+
+`./vorstelpijp explain FILE` with `--as hex`, `R0 = 63; strike` and `end 0`:
+
+    ./vorstelpijp explain examples/one.batch
+    {EXPLAINED}
+""",
+    "examples/one.batch": "strike\n",
+    "examples/one.explained": f"{EXPLAINED}\n          end 0             every record was answered\n",
     TIMES: """# Times
 
 | crate | functions | seconds | memory, MB | must-fail edits |

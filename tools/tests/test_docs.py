@@ -1,5 +1,5 @@
 """What tools/check-docs refuses of the rules, the check times and what the pages quote, on a small repository."""
-from tests.docs_tree import RULES, PROMISES, DECISIONS, TIMES, EVIDENCE, PROVING, FILES, DocsTest
+from tests.docs_tree import DECISIONS, EVIDENCE, EXPLAINED, FILES, LISTING, PROMISES, PROVING, RULES, TIMES, DocsTest
 
 
 class Right(DocsTest):
@@ -63,7 +63,7 @@ class Quotes(DocsTest):
 
     def assertQuote(self, quoted, words):
         """A quoted thing is refused in each page."""
-        for page in (DECISIONS, EVIDENCE, PROMISES, PROVING, "README.md", RULES, TIMES):
+        for page in (DECISIONS, EVIDENCE, LISTING, PROMISES, PROVING, "README.md", RULES, TIMES):
             with self.subTest(page):
                 self.files = dict(FILES)
                 self.files[page] += f"\nSee {quoted} there.\n"
@@ -116,6 +116,21 @@ class Quotes(DocsTest):
     def test_a_tool_that_is_not_listed(self):
         self.files["tools/check-more"] = ""
         self.assertWrong("the list of tools lacks check-more")
+
+
+class Desk(DocsTest):
+    """Calls of the desk program, its words, and lines that it explains."""
+
+    def test_a_call_that_is_none(self):
+        self.assertEdit(LISTING, "`./vorstelpijp explain FILE`", "`./vorstelpijp tell FILE`", "is no call of the desk program")
+        self.assertEdit(LISTING, "    ./vorstelpijp explain", "    ./vorstelpijp tell", "is no call of the desk program")
+
+    def test_words_that_are_none(self):
+        self.assertEdit(LISTING, "`R0 = 63; strike`", "`R0 = 63; hit`", "`R0 = 63; hit` names nothing that is there")
+        self.assertEdit(LISTING, "`end 0`", "`end 5`", "`end 5` names nothing that is there")
+
+    def test_a_line_that_no_example_has(self):
+        self.assertEdit(LISTING, EXPLAINED, EXPLAINED.replace("outside", "in"), "no example has the line")
 
 
 class Definitions(DocsTest):
