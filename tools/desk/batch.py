@@ -1,5 +1,6 @@
 """A batch with the remarks of its file, and the files that hold one: words, commented hex, or bytes."""
 import os
+import stat
 from typing import NamedTuple, Optional
 
 from records import MOST_BATCH_BYTES, RECORD_BYTES
@@ -9,7 +10,7 @@ from .wording import labels_of
 
 WORDS, HEX, BYTES = "words", "hex", "bytes"
 ENDINGS = {".batch": WORDS, ".hex": HEX, ".bin": BYTES}
-MOST_FILE = 1 << 24  # bytes; far more than any batch, so that a file that never ends is told
+MOST_STREAM = 1 << 26  # bytes; far more than any batch, so that an input that never ends is told
 MOST_TOLD = 20  # wrong lines of one file
 STANDARD_INPUT = "-"
 
@@ -116,14 +117,16 @@ def see_a_file(name):
 
 
 def read_bytes(name, place):
-    """All bytes of a file or a standard input, and not more than any batch could need. place is its path, or its number."""
+    """All bytes of a file or of standard input. place is its path, or its number."""
     try:
         with open(place, "rb", closefd=place != 0) as file:
-            given = file.read(MOST_FILE + 1)
+            if stat.S_ISREG(os.fstat(file.fileno()).st_mode):
+                return file.read()
+            given = file.read(MOST_STREAM + 1)
     except (OSError, ValueError) as problem:
         raise BadInput(f"{name}: cannot be read: {getattr(problem, 'strerror', None) or problem}") from problem
-    if len(given) > MOST_FILE:
-        raise BadInput(f"{name}: more than {MOST_FILE:,} bytes; a batch has at most {MOST_BATCH_BYTES:,}")
+    if len(given) > MOST_STREAM:
+        raise BadInput(f"{name}: more than {MOST_STREAM:,} bytes have come; a batch has at most {MOST_BATCH_BYTES:,}")
     return given
 
 

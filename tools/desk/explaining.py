@@ -6,7 +6,7 @@ from compared import LISTING, NotReadable
 from records import RECORD_BYTES, records_of
 from . import answers, refusals
 from .wording import labels_of
-from .writing import headings, standing_alone, text_of
+from .writing import Remarks, text_of
 
 BESIDE = 2  # spaces between two columns
 BEFORE_WORDS = 2 * RECORD_BYTES + BESIDE + 16 + BESIDE
@@ -58,12 +58,11 @@ def explain(batch, listing, paper):
     reading = reading_of(listing, whole)
     if listing == refusals.TOO_LONG:
         return paper.laid(f"{reading.ending}: ", refusals.too_long(len(batch.data))) + "\n"
-    made, waiting, lines = Explained(paper), headings(batch), listing.splitlines()
+    made, remarks, lines = Explained(paper), Remarks(batch), listing.splitlines()
     for number, (one, label, answer) in enumerate(zip(records_of(batch.data), labels_of(batch.data), reading.answers)):
-        while waiting and waiting[0][0] <= RECORD_BYTES * number:
-            made.lines.append(standing_alone(waiting.pop(0)[1]))
+        made.lines += remarks.before(number)
         made.record(one, label, lines[number], answer)
-    made.lines += [standing_alone(remark) for _place, remark in waiting]
+    made.lines += remarks.rest()
     rest = batch.data[RECORD_BYTES * whole:]
     made.lines.append(line_of(paper, "", lines[-1], refusals.ending(reading.ending, rest), reading.ending != 0))
     return text_of(made.lines)

@@ -66,13 +66,13 @@ def pair_words(first, second):
 
 
 def statements_of(data, apart=()):
-    """A batch as statements. At the places in apart a new one begins: there something stands between two records."""
+    """A batch as statements. With the records that are numbered in apart a new one begins: something stands before them."""
     ones, made, at = records_of(data), [], 0
     while at < len(ones):
-        place, second = RECORD_BYTES * at, ones[at + 1] if at + 1 < len(ones) else b""
-        words = None if place + RECORD_BYTES in apart else pair_words(ones[at], second)
+        has_second = at + 1 < len(ones) and at + 1 not in apart
+        words = pair_words(ones[at], ones[at + 1]) if has_second else None
         count = 2 if words else 1
-        made.append(Statement(place, b"".join(ones[at:at + count]), words or words_of(ones[at])))
+        made.append(Statement(RECORD_BYTES * at, b"".join(ones[at:at + count]), words or words_of(ones[at])))
         at += count
     return made
 

@@ -1,13 +1,44 @@
 """A batch as words and as commented hex, with the remarks of its file."""
+import collections
+
 from records import RECORD_BYTES, records_of
 from .wording import Statement, labels_of, statements_of
 
 WORDS_COLUMN = 24  # where a remark behind words begins
 
 
-def rounded(at):
-    """The first whole record's end at or behind a place."""
-    return -(-at // RECORD_BYTES) * RECORD_BYTES
+def records_before(place):
+    """How many records stand before a place; one in which it lies counts as well."""
+    return -(-place // RECORD_BYTES)
+
+
+class Remarks:
+    """The remarks of a batch, each by the record that it belongs to; they are taken from the first to the last."""
+
+    def __init__(self, batch):
+        alone = [remark for remark in batch.remarks if not remark.behind]
+        self.waiting = collections.deque((records_before(remark.at), standing_alone(remark)) for remark in alone)
+        self.apart = {number for number, _line in self.waiting}
+        self.behind = collections.defaultdict(list)
+        for remark in batch.remarks:
+            if remark.behind:
+                self.behind[records_before(remark.at) - 1].append(remark.text)
+
+    def before(self, number):
+        """The lines of remarks that stand before a record, those before earlier ones being taken already."""
+        lines = []
+        while self.waiting and self.waiting[0][0] <= number:
+            lines.append(self.waiting.popleft()[1])
+        return lines
+
+    def rest(self):
+        """The lines of remarks behind the last record."""
+        return [line for _number, line in self.waiting]
+
+    def of_statement(self, statement):
+        """What stands behind the records of a statement."""
+        first, end = records_before(statement.at), records_before(statement.at + len(statement.data))
+        return "; ".join(text for number in range(first, end) for text in self.behind[number])
 
 
 def standing_alone(remark):
@@ -15,25 +46,13 @@ def standing_alone(remark):
     return "" if remark.text is None else f"# {remark.text}".rstrip()
 
 
-def headings(batch):
-    """The remarks on lines of their own, each with the place of the record that it stands before."""
-    return [(rounded(remark.at), remark) for remark in batch.remarks if not remark.behind]
-
-
-def behind(batch, statement):
-    """What stands behind the records of a statement."""
-    end = statement.at + len(statement.data)
-    return "; ".join(remark.text for remark in batch.remarks if remark.behind and statement.at < min(rounded(remark.at), len(batch.data)) <= end)
-
-
-def with_remarks(batch, statements, line_of):
+def with_remarks(remarks, statements, line_of):
     """A line for each statement, and the remarks on their lines between them."""
-    waiting, lines = headings(batch), []
+    lines = []
     for statement in statements:
-        while waiting and waiting[0][0] <= statement.at:
-            lines.append(standing_alone(waiting.pop(0)[1]))
-        lines.append(line_of(statement, behind(batch, statement)))
-    return lines + [standing_alone(remark) for _place, remark in waiting]
+        lines += remarks.before(records_before(statement.at))
+        lines.append(line_of(statement, remarks.of_statement(statement)))
+    return lines + remarks.rest()
 
 
 def words_line(statement, remark):
@@ -49,15 +68,15 @@ def hex_line(statement, remark):
 
 def as_words(batch):
     """The batch in words."""
-    apart = {place for place, _remark in headings(batch)}
-    return text_of(with_remarks(batch, statements_of(batch.data, apart), words_line))
+    remarks = Remarks(batch)
+    return text_of(with_remarks(remarks, statements_of(batch.data, remarks.apart), words_line))
 
 
 def as_hex(batch):
     """The batch as commented hex."""
     ones = zip(records_of(batch.data), labels_of(batch.data))
     statements = [Statement(RECORD_BYTES * number, one, label) for number, (one, label) in enumerate(ones)]
-    return text_of(with_remarks(batch, statements, hex_line))
+    return text_of(with_remarks(Remarks(batch), statements, hex_line))
 
 
 def text_of(lines):
