@@ -19,9 +19,10 @@ def find_kit():
     """The kit is two folders above the guide that rt names."""
     need("rt")
     well, said = attempt(["rt", "doc"])
-    if not well:
-        raise CannotRun("'rt doc' failed, so the toolchain's kit cannot be found")
-    home = pathlib.Path(said.strip()).parent.parent
+    guide = pathlib.Path(said.strip())
+    if not well or not guide.is_absolute():
+        raise CannotRun(f"'rt doc' does not say where the toolchain's kit is, but: {said.strip() or 'nothing'}")
+    home = guide.parent.parent
     machine = platform.machine()
     own = home / "on" / machine
     if not own.is_dir():

@@ -13,7 +13,7 @@ class Progress:
 
     def say(self, words):
         """A line that stays."""
-        self.end()
+        self.close()
         print(f"{self.who}: {words}", file=sys.stderr, flush=True)
 
     def show(self, words):
@@ -25,7 +25,7 @@ class Progress:
         print("\r" + f"{self.who}: {words}"[:width].ljust(width), end="", file=sys.stderr, flush=True)
         self.shown = True
 
-    def end(self):
+    def close(self):
         """Takes the line away that would be written over."""
         if self.shown:
             width = shutil.get_terminal_size().columns - 1

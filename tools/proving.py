@@ -1,8 +1,10 @@
 """Has rt prove and build programs and the archive, and tells what is being proved and how far it is."""
 import contextlib
 import fcntl
+import os
 import queue
 import re
+import signal
 import subprocess
 import threading
 import time
@@ -17,6 +19,7 @@ ARCHIVE_CRATE = "exports"
 ARCHIVE = TOP / "target" / "staticlib" / f"lib{ARCHIVE_CRATE}.a"
 PROVED = re.compile(r"rt: (\S+) proved \((\d+ s)?")
 A_MOMENT = 1.0  # seconds; what is proved already takes less, and then nothing is told
+A_WHILE = 15  # seconds in which something is told even where no line can be written over
 LINES_SHOWN = 40  # of what rt said, where it failed
 
 
@@ -55,14 +58,32 @@ class Proving:
 
 @contextlib.contextmanager
 def in_turn(progress):
-    """One run of rt at a time in this repository; another one is waited for."""
+    """One run of rt at a time in this repository; another one is waited for. Gives the file that tells them: whoever has it open has the turn."""
     with open(TOP / "crates.txt", "rb") as file:
         try:
             fcntl.flock(file, fcntl.LOCK_EX | fcntl.LOCK_NB)
         except BlockingIOError:
             progress.say("another run is proving here; waiting for it")
             fcntl.flock(file, fcntl.LOCK_EX)
+        yield file
+
+
+@contextlib.contextmanager
+def stopped_with_us(process):
+    """Sees that a process and all that it started end where this one is told to end."""
+    def stop(_signal, _frame):
+        raise KeyboardInterrupt
+
+    handlers = {number: signal.signal(number, stop) for number in (signal.SIGTERM, signal.SIGHUP)}
+    try:
         yield
+    except BaseException:
+        with contextlib.suppress(ProcessLookupError):
+            os.killpg(process.pid, signal.SIGTERM)
+        raise
+    finally:
+        for number, handler in handlers.items():
+            signal.signal(number, handler)
 
 
 def lines_of(process):
@@ -89,29 +110,33 @@ def lines_of(process):
 
 def follow(process, proving, progress, names):
     """Hears all that rt says, and tells how far it is once that takes longer than a moment."""
-    announced = False
+    announced, told_at = False, time.monotonic()
     for line in lines_of(process):
         proved_now = line is not None and proving.hear(line.rstrip("\n"))
         if not announced and (proved_now or line is None):
             announced = True
-            progress.say(f"proving and building {' and '.join(names)}; where nothing is proved yet, that takes some minutes")
-        if proved_now or (line is None and progress.rewrites):
+            progress.say(f"proving and building {' and '.join(names)}, which takes some minutes at first")
+        if proved_now or line is None and (progress.rewrites or time.monotonic() - told_at > A_WHILE):
+            told_at = time.monotonic()
             progress.show(proving.told())
-    progress.end()
 
 
 def have_rt(who, task, names, made):
     """Has rt do a task for crates, by which files are made. who is the tool that asks for it."""
     need("rt")
     progress = Progress(who)
-    with in_turn(progress):
+    with in_turn(progress) as turn, contextlib.closing(progress):
         proving = Proving(names)
-        with subprocess.Popen(["rt", task, *names], cwd=TOP, stdin=subprocess.DEVNULL, stdout=subprocess.PIPE,
-                              stderr=subprocess.STDOUT, text=True, errors="replace") as process:
-            follow(process, proving, progress, names)
-    if process.returncode or not all(path.is_file() for path in made):
-        told = "\n".join(proving.said[-LINES_SHOWN:])
+        with subprocess.Popen(["rt", task, *names], cwd=TOP, stdin=subprocess.DEVNULL, stdout=subprocess.PIPE, stderr=subprocess.STDOUT,
+                              text=True, errors="replace", start_new_session=True, pass_fds=(turn.fileno(),)) as process:
+            with stopped_with_us(process):
+                follow(process, proving, progress, names)
+    told = "\n".join(proving.said[-LINES_SHOWN:]) or "nothing"
+    if process.returncode:
         raise CannotRun(f"'rt {task} {' '.join(names)}' failed, saying:\n{told}")
+    for path in made:
+        if not path.is_file():
+            raise CannotRun(f"'rt {task} {' '.join(names)}' ended well, but made no {path.relative_to(TOP)}. It said:\n{told}")
 
 
 def prove(who, names):

@@ -3,7 +3,7 @@ from .vocabulary import SELECTS, TICKS, in_hex
 
 PICTURE = 0x01
 OUTPUTS = ((0x01, "picture"), (0x02, "display enable"), (0x04, "cursor"), (0x08, "HSYNC"), (0x10, "VSYNC"))
-STATUS = ((0x40, "L (a strike not read yet)"), (0x20, "V (below the rows shown)"))
+STATUS = ((0x40, "L (a strike not read yet)"), (0x20, "V (the rows shown are over)"))
 RAM, BARRED, CONTROL_WRITE = 0x01, 0x02, 0x04
 EDGES = ("no edge", "HS falls", "HS rises", "HS rises with preload")
 

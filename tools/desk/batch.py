@@ -1,4 +1,5 @@
 """A batch with the remarks of its file, and the files that hold one: words, commented hex, or bytes."""
+import codecs
 import os
 import stat
 from typing import NamedTuple, Optional
@@ -59,18 +60,18 @@ def split_lines(text):
 
 def read_text(name, text, read_line, whole_records):
     """A batch from lines; where records have to be whole, only the last may be cut."""
-    data, remarks, wrong = bytearray(), [], []
+    data, remarks, wrong, cut = bytearray(), [], [], None
     for number, line in enumerate(split_lines(text), start=1):
         try:
             part = read_line(line.partition("#")[0])
         except (reading.NotWords, hextext.NotHex) as problem:
             wrong.append(f"{name}, line {number}: {problem}")
             continue
-        if part and whole_records and len(data) % RECORD_BYTES:
-            wrong.append(f"{name}, line {number}: nothing can follow the bytes before it, which end inside a record; "
-                         "expected four bytes to each record")
+        if part and cut:
+            wrong.append(f"{name}, line {cut}: these bytes end inside a record, and line {number} follows; expected four bytes to each record")
             break
         data += part
+        cut = number if whole_records and part and len(data) % RECORD_BYTES else cut
         remark = remark_of(line, len(data), bool(part))
         if remark:
             remarks.append(remark)
@@ -130,6 +131,20 @@ def read_bytes(name, place):
     return given
 
 
+def decoded(name, given):
+    """A file's text: in UTF-8, in UTF-16 where it says so, or else with a letter for each byte."""
+    if given.startswith((codecs.BOM_UTF16_LE, codecs.BOM_UTF16_BE)):
+        text = given.decode("utf-16", errors="replace")
+    else:
+        try:
+            text = given.decode("utf-8-sig")
+        except UnicodeDecodeError:
+            text = given.decode("latin-1")
+    if "\0" in text:
+        raise BadInput(f"{name}: this is not text; expected words or hex, or --as bytes for what it is")
+    return text
+
+
 def read_batch(name, said=None):
     """The batch of a file, or of standard input."""
     place = name
@@ -143,7 +158,7 @@ def read_batch(name, said=None):
     given = read_bytes(name, place)
     if form == BYTES:
         return Batch(given)
-    text = given.decode("utf-8-sig", errors="surrogateescape")
+    text = decoded(name, given)
     if form == WORDS:
         return read_text(name, text, reading.read_line, whole_records=True)
     return without_labels(read_text(name, text, hextext.read_line, whole_records=False))

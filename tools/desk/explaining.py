@@ -1,6 +1,7 @@
 """The listing with each record and its answer in words beside it."""
 import contextlib
 
+import records
 from commands import CannotRun
 from compared import LISTING, NotReadable
 from records import RECORD_BYTES, records_of
@@ -34,22 +35,37 @@ class Explained:
         self.paper = paper
         self.lines = []
         self.advised = set()
+        self.certain = False  # whether the controller was reset, and no register written since
 
-    def record(self, one, label, line, answer):
-        """A record, its line of the listing, and the answer there."""
+    def record(self, one, label, line, answer, remark):
+        """A record, its line of the listing, the answer there, and what the file says behind it."""
         number = answer[1]
+        says = f"refused {number}, {refusals.reason(number)}" if number else answers.words_of(one, answer)
+        words = (f"{label}: {says}" if says else label) + (f"  # {remark}" if remark else "")
+        self.lines.append(line_of(self.paper, one.hex(), line, words, number != 0))
         if number:
-            self.lines.append(line_of(self.paper, one.hex(), line, f"{label}: refused {number}, {refusals.reason(number)}", True))
-            self.advise(number)
-            return
-        says = answers.words_of(one, answer)
-        self.lines.append(line_of(self.paper, one.hex(), line, f"{label}: {says}" if says else label))
+            self.advise(refusals.ADVICE.get(number))
+        else:
+            self.follow(one)
 
-    def advise(self, number):
-        """What to do about a refusal, once."""
-        if number in refusals.ADVICE and number not in self.advised:
-            self.advised.add(number)
-            self.lines.append(self.paper.laid(" " * BEFORE_WORDS + "-> ", refusals.ADVICE[number]))
+    def follow(self, one):
+        """Keeps whether a locate is certain, and says it where one is not."""
+        if one == records.reset_controller():
+            self.certain = True
+        elif one == records.write(one[3]):
+            self.certain = False
+        elif one == records.locate() and not self.certain:
+            self.advise(refusals.UNSURE)
+
+    def advise(self, words):
+        """What to do about an answer, once."""
+        if words and words not in self.advised:
+            self.advised.add(words)
+            self.lines.append(self.paper.laid(" " * BEFORE_WORDS + "-> ", words))
+
+    def headings(self, remarks):
+        """Remarks on lines of their own, folded as the others are."""
+        self.lines += [self.paper.laid("# ", line[2:]) if line.startswith("# ") else line for line in remarks]
 
 
 def explain(batch, listing, paper):
@@ -60,9 +76,9 @@ def explain(batch, listing, paper):
         return paper.laid(f"{reading.ending}: ", refusals.too_long(len(batch.data))) + "\n"
     made, remarks, lines = Explained(paper), Remarks(batch), listing.splitlines()
     for number, (one, label, answer) in enumerate(zip(records_of(batch.data), labels_of(batch.data), reading.answers)):
-        made.lines += remarks.before(number)
-        made.record(one, label, lines[number], answer)
-    made.lines += remarks.rest()
+        made.headings(remarks.before(number))
+        made.record(one, label, lines[number], answer, remarks.behind_record(number))
+    made.headings(remarks.rest())
     rest = batch.data[RECORD_BYTES * whole:]
-    made.lines.append(line_of(paper, "", lines[-1], refusals.ending(reading.ending, rest), reading.ending != 0))
+    made.lines.append(line_of(paper, "", lines[-1], refusals.ending(reading.ending, rest, reading.answers), reading.ending != 0))
     return text_of(made.lines)

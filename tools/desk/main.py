@@ -42,7 +42,7 @@ def command_line():
 
 def put_out(text):
     """Writes all of a text or of bytes to standard output, past Python's own buffer, so that nothing is left to fail at the end."""
-    rest = text if isinstance(text, bytes) else text.encode("utf-8", errors="surrogateescape")
+    rest = text if isinstance(text, bytes) else text.encode()
     while rest:
         rest = rest[os.write(1, rest):]
 
@@ -79,5 +79,5 @@ def main(words):
     try:
         return run(asked)
     except KeyboardInterrupt:
-        tell("stopped")
+        tell("stopped; what is proved so far stays proved")
         return STOPPED

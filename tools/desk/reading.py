@@ -4,7 +4,7 @@ import re
 from typing import Callable, NamedTuple
 
 import records
-from records import CONTROL_BITS
+from records import CONTROL_BITS, RECORD_BYTES
 from .hextext import NotHex, bytes_of_words
 from .terminal import shortened
 from .vocabulary import REGISTER_NUMBERS
@@ -59,16 +59,20 @@ def is_register(word):
 
 def taken(words, count, shape):
     """The words behind the first, which are to be so many."""
-    if len(words) != count:
-        raise NotWords(f"expected '{shape}'")
+    if len(words) < count:
+        raise NotWords(f"something is missing; expected it as in '{shape}'")
+    if len(words) > count:
+        raise NotWords(f"'{shortened(words[count])}' is too much; expected it as in '{shape}', with ';' before another record and '#' before a comment")
     return words
 
 
 def assign(words):
     """The register, '=' and its value."""
-    if len(words) != 3 or words[1] != "=":
-        raise NotWords(f"expected '{shortened(words[0])} = ' and a value")
-    return records.put(register(words[0]), number(words[2], BYTE, "a register's value"))
+    number_of = register(words[0])
+    if words[1:2] != ["="]:
+        raise NotWords(f"expected '=' behind it, as in '{shortened(words[0])} = 63'")
+    value, = taken(words[2:], 1, f"{words[0]} = 63")
+    return records.put(number_of, number(value, BYTE, "a register's value"))
 
 
 def select(words):
@@ -131,9 +135,9 @@ def control(words, value, shape):
 def levels(words):
     """Of HS and DA0."""
     shape = "levels HS 0 DA0 1"
-    hs, first, da0, second = taken(words, 4, shape)
+    hs, first, da0, second = taken([word for word in words if word != "="], 4, shape)
     if (hs.upper(), da0.upper()) != ("HS", "DA0"):
-        raise NotWords(f"expected '{shape}'")
+        raise NotWords(f"expected it as in '{shape}'")
     return records.levels(number(first, LEVEL, "the level of HS"), number(second, LEVEL, "the level of DA0"))
 
 
@@ -195,5 +199,11 @@ def read_statement(text):
 
 
 def read_line(text):
-    """The bytes of a line's statements."""
-    return b"".join(read_statement(part) for part in text.split(SEPARATOR))
+    """The bytes of a line's statements; only the last may end inside a record."""
+    data = b""
+    for part in text.split(SEPARATOR):
+        given = read_statement(part)
+        if given and len(data) % RECORD_BYTES:
+            raise NotWords(f"'{shortened(part.strip())}' cannot follow bytes that end inside a record; expected four bytes to each record")
+        data += given
+    return data

@@ -2,6 +2,7 @@
 from records import GREATEST_FIELDS, KIND_NAMES, MOST_BATCH_BYTES, RECORD_BYTES
 
 TOO_LONG = "too long\n"
+EMPTY = "the batch is empty: it has no record"
 FIELDS = ("hi", "lo", "data")
 MOST_RECORDS = MOST_BATCH_BYTES // RECORD_BYTES
 
@@ -19,11 +20,15 @@ ADVICE = {
     5: "Put a strike between the reset and the locate; a reset forgets all strikes.",
     6: "The latch is no position, though a cell may have that address: the pen fired in a blanked part. Look at the clock line before the "
        "strike: 'picture' has to stand there. On the bench, see whether the pen picks up light from the border, or fires late.",
-    7: "The registers were written after the strike, so that no cell has its address now. Locate before you change R0, R1, R4, R6, R8, R12 "
-       "or R13, or let the pen fire again.",
+    7: "By the registers as they stand no cell has that address: one was written since the strike, or R12 or R13 in this frame, which count for "
+       "the scan from the next frame or reset on. Put the reset behind the setting, and locate before you write another register.",
     8: "The pen cannot tell these cells apart: the picture has more cells than addresses, or its rows share some. Make the picture "
        "smaller, or show the part that matters alone, and fire again.",
 }
+
+# Said once where a strike is located after registers were written.
+UNSURE = ("Registers were written after the controller's last reset, or it had none. This is the cell that fits the latch by the registers as "
+          "they stand now. That it is where the pen was is certain only where none is written between reset and locate.")
 
 
 def named_limit(most):
@@ -47,10 +52,13 @@ def reason(number):
     return REASONS.get(number, "for a reason that this desk does not know")
 
 
-def ending(number, rest):
+def ending(number, rest, answers=()):
     """What a listing's last line says; rest is what follows the last whole record."""
+    refused = sum(bool(answer[1]) for answer in answers)
+    if number == 0 and not answers:
+        return EMPTY
     if number == 0:
-        return "every record was answered"
+        return "every record was answered" + (f", {refused} with a refusal" if refused else "")
     if number == 3 and rest:
         return (f"the last bytes, {rest.hex(' ')}, are {len(rest)} of a record's {RECORD_BYTES}: the file was cut, or a byte is missing "
                 "or too many somewhere before. What stands above is answered all the same.")
@@ -68,6 +76,6 @@ def surprise(data, text):
     if text == TOO_LONG:
         return too_long(len(data))
     if not data:
-        return "the batch is empty: it has no record"
+        return EMPTY
     rest = data[len(data) // RECORD_BYTES * RECORD_BYTES:]
     return ending(3, rest) if rest else None

@@ -1,9 +1,10 @@
 """What a byte means to the register that it is written to, in words."""
-from .vocabulary import in_hex
+from .vocabulary import in_hex, register_value
 
 KEPT = {4: 7, 5: 5, 6: 7, 7: 7, 9: 5, 10: 7, 11: 5, 12: 6, 14: 6}  # bits, of the registers that do not keep all eight
 LAST_WRITTEN = 15
 MODES = ((0x04, "addresses by row and column"), (0x10, "display enable delayed"), (0x20, "cursor delayed"))
+LEFT_OUT = (0, 1, 3, 6, 7)  # bits of R8, by number
 BLINKS = ("steady", "never shown", "blinking, 8 frames on and 8 off", "blinking, 16 frames on and 16 off")
 
 
@@ -14,13 +15,15 @@ def counted(number, one, many):
 
 def widths(value):
     """R3."""
-    return (f"HSYNC {counted(value % 16, 'character', 'characters')} wide, "
-            f"VSYNC {counted(value // 16 or 16, 'line', 'lines')} high")
+    return (f"HSYNC {counted(value % 16, 'character', 'characters')} long, "
+            f"VSYNC {counted(value // 16 or 16, 'line', 'lines')} long")
 
 
 def modes(value):
     """R8."""
-    return ", ".join(name for bit, name in MODES if value & bit) or "addresses in one run, no delay"
+    words = ", ".join(name for bit, name in MODES if value & bit) or "straight binary addresses, no delay"
+    others = [str(bit) for bit in LEFT_OUT if value >> bit & 1]
+    return f"{words}; left out here: bit {' and bit '.join(others)}" if others else words
 
 
 def cursor(value):
@@ -54,4 +57,4 @@ def meaning(number, value):
         return "cannot be written, so nothing changes"
     bits = KEPT.get(number, 8)
     words = MEANINGS[number](value % 2 ** bits)
-    return words if value < 2 ** bits else f"of {bits} bits {value % 2 ** bits} is kept: {words}"
+    return words if value < 2 ** bits else f"{bits} bits are kept, {register_value(number, value % 2 ** bits)}: {words}"

@@ -10,11 +10,15 @@ LONGEST_WORD = 40  # that a message repeats
 BOLD, PLAIN = "\033[1m", "\033[0m"
 
 
+def printable(text):
+    """A text with everything that a terminal would not show as a letter written out."""
+    return "".join(letter if letter.isprintable() or letter == "\n" else repr(letter)[1:-1] for letter in text)
+
+
 def tell(words):
     """A line on standard error."""
-    text = f"{WHO}: {words}\n".encode("utf-8", errors="backslashreplace")
     with contextlib.suppress(OSError):
-        os.write(2, text)
+        os.write(2, f"{WHO}: {printable(str(words))}\n".encode())
 
 
 def shortened(word):

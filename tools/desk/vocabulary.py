@@ -21,7 +21,8 @@ REGISTERS = (
     "pen latch, low",
 )
 REGISTER_NUMBERS = 32  # that five bits can name
-NOT_BUILT = "not built"  # R18 to R31
+LEFT_OUT = "left out here"  # R18 to R31
+READ_BACK = (14, 15, 16, 17)  # the registers that a read brings
 # Registers that are bits or parts of an address: their values are written in hex.
 IN_HEX = {3, 8, 10, 12, 13, 14, 15, 16, 17}
 
@@ -33,7 +34,7 @@ TICKS = {8: "fast", 16: "slow"}
 
 def register(number):
     """A register by its number, in words."""
-    return REGISTERS[number] if number < len(REGISTERS) else NOT_BUILT
+    return REGISTERS[number] if number < len(REGISTERS) else LEFT_OUT
 
 
 def control_bit(name):

@@ -5,7 +5,7 @@ import records
 from records import CONTROL, CONTROL_BITS, RECORD_BYTES, is_allowed, records_of
 from .refusals import why_not_allowed
 from .settings import meaning
-from .vocabulary import REGISTER_NUMBERS, control_bit, in_hex, register, register_value
+from .vocabulary import READ_BACK, REGISTER_NUMBERS, control_bit, in_hex, register, register_value
 
 CHIPS = ("controller", "multiplexer")
 
@@ -86,9 +86,10 @@ def label_of(one, named):
     if kind == 1 and low:
         return f"{meant} = {register_value(named, value)} ({meaning(named, value)})"
     if kind == 1:
-        return f"{words_of(one)} ({register(value % REGISTER_NUMBERS)})"
+        number = value % REGISTER_NUMBERS
+        return f"{words_of(one)} ({'' if value == number else f'R{number}, '}{register(number)})"
     if kind == 2 and low:
-        return f"read {meant} ({register(named)})"
+        return f"read {meant} ({register(named)}{'' if named in READ_BACK else ', cannot be read back'})"
     words = words_of(one)
     name = control_name(256 * high + low) if kind == 6 and not value else None
     return f"{words} ({control_bit(name)})" if name else words

@@ -35,10 +35,14 @@ class Remarks:
         """The lines of remarks behind the last record."""
         return [line for _number, line in self.waiting]
 
+    def behind_record(self, number):
+        """What stands behind a record."""
+        return "; ".join(self.behind.get(number, ()))
+
     def of_statement(self, statement):
         """What stands behind the records of a statement."""
         first, end = records_before(statement.at), records_before(statement.at + len(statement.data))
-        return "; ".join(text for number in range(first, end) for text in self.behind[number])
+        return "; ".join(filter(None, map(self.behind_record, range(first, end))))
 
 
 def standing_alone(remark):

@@ -14,7 +14,7 @@ from desk.terminal import BOLD, Paper
 ANSWERED = (
     ("status", "0200010000000000", "$00, neither L nor V"),
     ("status", "0200014000000000", "$40, L (a strike not read yet)"),
-    ("status", "0200016000000000", "$60, L (a strike not read yet), V (below the rows shown)"),
+    ("status", "0200016000000000", "$60, L (a strike not read yet), V (the rows shown are over)"),
     ("read", "0200014000000000", "$40"),
     ("read", "0200000000000000", "not driven"),
     ("clock 1", "0300000100130000", "MA $0001, RA 0, picture, display enable, VSYNC"),
@@ -40,11 +40,12 @@ ANSWERED = (
     ("reset controller", "0500000000000000", ""),
 )
 MEANINGS = {
-    (0, 63): "64 characters in a line", (0, 0): "1 character in a line", (3, 0x28): "HSYNC 8 characters wide, VSYNC 2 lines high",
-    (3, 0x01): "HSYNC 1 character wide, VSYNC 16 lines high", (4, 200): "of 7 bits 72 is kept: 73 rows in a frame", (5, 1): "1 adjust line",
-    (8, 0x34): "addresses by row and column, display enable delayed, cursor delayed", (8, 0): "addresses in one run, no delay",
+    (0, 63): "64 characters in a line", (0, 0): "1 character in a line", (3, 0x28): "HSYNC 8 characters long, VSYNC 2 lines long",
+    (3, 0x01): "HSYNC 1 character long, VSYNC 16 lines long", (4, 200): "7 bits are kept, 72: 73 rows in a frame", (5, 1): "1 adjust line",
+    (8, 0x34): "addresses by row and column, display enable delayed, cursor delayed", (8, 0): "straight binary addresses, no delay",
+    (8, 0x07): "addresses by row and column; left out here: bit 0 and bit 1",
     (10, 0x66): "cursor from line 6 on, blinking, 16 frames on and 16 off", (10, 0x20): "cursor from line 0 on, never shown",
-    (12, 0xFF): "of 6 bits 63 is kept: start address $3Fxx", (15, 7): "cursor address $xx07", (16, 5): "cannot be written, so nothing changes",
+    (12, 0xFF): "6 bits are kept, $3F: start address $3Fxx", (15, 7): "cursor address $xx07", (16, 5): "cannot be written, so nothing changes",
     (31, 5): "cannot be written, so nothing changes",
 }
 
@@ -86,7 +87,21 @@ class Explained(unittest.TestCase):
         self.assertTrue(lines[1].startswith(28 * " " + "-> Put a strike"))
         self.assertEqual(lines[2], lines[0])
         self.assertIn("reset: lo is 7 and has to be 0 or 1: refused 2", lines[3])
-        self.assertEqual(len(lines), 6)
+        self.assertEqual(lines[5:], ["          end 0             every record was answered, 3 with a refusal"])
+
+    def test_a_batch_without_records(self):
+        self.assertEqual(explained("", "end 0\n"), ["          end 0             the batch is empty: it has no record"])
+
+    def test_a_cell_that_is_not_certain(self):
+        answers = {"reset controller": "0500000000000000", "write 3": "0100000000000000", "strike": "0400000301000000", "locate": "0900000100000000",
+                   "read": "0200010000000000", "clock 1": "0300000100130000"}
+        for statements, certain in ((("strike", "locate"), False), (("reset controller", "clock 1", "strike", "read", "locate"), True),
+                                    (("reset controller", "write 3", "strike", "locate"), False),
+                                    (("reset controller", "strike", "write 3", "locate"), False),
+                                    (("write 3", "reset controller", "strike", "locate"), True)):
+            with self.subTest(statements):
+                listing = "".join(f"{answers[one]}\n" for one in statements) + "end 0\n"
+                self.assertEqual("-> Registers were written" not in "\n".join(explained("; ".join(statements), listing)), certain)
 
     def test_each_refusal_has_its_reason_and_its_advice(self):
         for number in (1, 2, 5, 6, 7, 8):
@@ -107,6 +122,13 @@ class Explained(unittest.TestCase):
         batch = Batch(read_line("strike; locate"), (Remark(4, "And now", False), Remark(8, "behind", True), Remark(8, None, False)))
         lines = explain(batch, "0400000200000000\n0906000000000000\nend 0\n", Paper()).splitlines()
         self.assertEqual((lines[1], lines[4]), ("# And now", ""))
+        self.assertTrue(lines[2].endswith("the strike was outside the picture  # behind"))
+
+    def test_headings_are_folded(self):
+        batch = Batch(b"", (Remark(0, 30 * "words ", False),))
+        lines = explain(batch, "end 0\n", Paper(60)).splitlines()
+        self.assertTrue(all(len(line) <= 60 for line in lines), lines)
+        self.assertEqual((lines[0][:7], lines[1][:7]), ("# words", "  words"))
 
     def test_what_is_no_listing_of_the_batch(self):
         for listing in ("", "end 0\n", "0400000200000000\n", "0400000200000000\n0400000200000000\nend 0\n", "04000002000000\nend 0\n", "too short\n"):

@@ -85,7 +85,7 @@ class Ends(unittest.TestCase):
     def test_somebody_stops_it(self):
         with mock.patch("desk.main.run", side_effect=KeyboardInterrupt), mock.patch("desk.main.tell") as told:
             self.assertEqual(main(["words", "x.batch"]), 130)
-        told.assert_called_once_with("stopped")
+        self.assertIn("stopped", told.call_args.args[0])
 
 
 if __name__ == "__main__":

@@ -3,7 +3,7 @@ import random
 import unittest
 
 from desk import hextext, reading
-from desk.batch import BadInput, Batch, Remark, read_text, without_labels
+from desk.batch import BadInput, Batch, Remark, decoded, read_text, without_labels
 from desk.reading import FORMS, NotWords, read_line
 from desk.trials import edges
 from desk.wording import labels_of, statements_of
@@ -39,6 +39,7 @@ SAID = {
     "fetch 32": "07002000",
     "levels HS 0 DA0 1": "08000001",
     "levels hs 1 da0 0": "08000100",
+    "levels HS=1 DA0=1": "08000101",
     "locate": "09000000",
     "bytes 0a 01 02 03": "0a010203",
     "bytes 0A010203 ff": "0a010203 ff",
@@ -49,37 +50,43 @@ SAID = {
 UNCLEAR = {
     "clok 3": "did you mean 'clock'?",
     "63": "expected a register",
-    "R0": "expected 'R0 = '",
-    "R0 63": "expected 'R0 = '",
-    "R0 = 1 2": "expected 'R0 = '",
+    "R0": "expected '=' behind it, as in 'R0 = 63'",
+    "R7 63": "expected '=' behind it, as in 'R7 = 63'",
+    "R0 =": "something is missing; expected it as in 'R0 = 63'",
+    "R0 = 1 2": "'2' is too much",
+    "R0 = 63, R1 = 40": "'R1' is too much",
+    "R0 = 63 // a": "'#' before a comment",
     "R32 = 1": "R0 to R31",
     "R0 = 256": "0 to 255",
     "R0 = $100": "$0 to $FF",
     "R0 = -1": "0 to 255",
     "R0 = 0x3f": "'0x3f' is not a number",
     "R0 = $": "'$' is not a number",
-    "write": "expected 'write 63'",
-    "select": "expected 'select R16'",
+    "write": "something is missing; expected it as in 'write 63'",
+    "select": "expected it as in 'select R16'",
     "select R99": "R0 to R31",
     "select 256": "0 to 255",
     "read 16": "R0 to R31",
-    "read R1 R2": "expected 'read' or 'read R16'",
-    "clock": "expected 'clock 20'",
+    "read R1 R2": "'R2' is too much; expected it as in 'read' or 'read R16'",
+    "clock": "expected it as in 'clock 20'",
+    "clock 20 30": "'30' is too much; expected it as in 'clock 20', with ';' before another record",
     "clock 65536": "0 to 65535",
     "clock 1,000": "'1,000' is not a number",
     "clock " + 5000 * "9": "too large",
     "fetch 65536": "0 to 65535",
-    "strike 1": "expected 'strike'",
+    "strike 1": "'1' is too much",
     "reset": "'reset controller' or 'reset multiplexer'",
     "reset pen": "'reset controller' or 'reset multiplexer'",
-    "bus $A000": "expected 'bus read $A000'",
+    "bus $A000": "expected it as in 'bus read $A000'",
     "bus fetch $A000": "'bus read' or a 'bus write'",
     "bus read $10000": "$0 to $FFFF",
     "set V3": "V0 V1 V2 F0 to F6 P R0 R1 M0 M1 TY",
-    "clear": "expected 'clear TY'",
+    "clear": "expected it as in 'clear TY'",
+    "set TY 1": "'1' is too much",
     "levels HS 2 DA0 0": "0 to 1",
-    "levels DA0 0 HS 0": "expected 'levels HS 0 DA0 1'",
-    "levels 0 1": "expected 'levels HS 0 DA0 1'",
+    "levels DA0 0 HS 0": "expected it as in 'levels HS 0 DA0 1'",
+    "levels 0 1": "expected it as in 'levels HS 0 DA0 1'",
+    "bytes 03 00 05; strike": "'strike' cannot follow bytes that end inside a record",
     "bytes": "expected bytes in hex",
     "bytes 1": "odd number of hex digits",
     "bytes $0a": "not a hex digit",
@@ -150,8 +157,7 @@ class Reading(unittest.TestCase):
         self.assertEqual(words_batch("strike\nbytes 01 02 # and an end\n\n").data.hex(), "040000000102")
         with self.assertRaises(BadInput) as caught:
             words_batch("bytes 01 02\n\nstrike\nlocate\n")
-        self.assertIn("line 3", caught.exception.messages[0])
-        self.assertIn("inside a record", caught.exception.messages[0])
+        self.assertIn("line 1: these bytes end inside a record, and line 3 follows", caught.exception.messages[0])
 
     def test_hex_may_be_cut_anywhere(self):
         self.assertEqual(hex_batch("04 0000\n00 09 # a part\n000000").data.hex(), "0400000009000000")
@@ -195,15 +201,24 @@ class Writing(unittest.TestCase):
     def test_remarks_of_one_statement_are_joined(self):
         self.assertEqual(as_words(hex_batch("01000000 # one\n0100013f # two\n")), "R0 = 63                  # one; two\n")
 
-    def test_letters_of_another_alphabet_stay_in_remarks(self):
-        text = b"strike                   # caf\xe9 \xc3\xa9\n".decode("utf-8", errors="surrogateescape")
-        self.assertEqual(as_words(words_batch(text)), text)
+    def test_letters_of_other_alphabets(self):
+        for given, said in (("strike # café".encode(), "café"), (b"R0\xa0= 3 # caf\xe9", "café"), ("strike # café".encode("utf-8-sig"), "café"),
+                            ("strike # café".encode("utf-16"), "café")):
+            with self.subTest(given):
+                self.assertEqual(words_batch(decoded("some.batch", given)).remarks[0].text, said)
+
+    def test_what_is_no_text(self):
+        with self.assertRaises(BadInput) as caught:
+            decoded("some.batch", b"\x04\0\0\0")
+        self.assertIn("--as bytes", str(caught.exception))
 
     def test_the_register_that_is_meant(self):
         data = read_line("write 3; R6 = 25; write 9; select $46; read; select R20; bytes 01 00 02 05; read")
         self.assertEqual(labels_of(data), [
-            "R0 = 3 (4 characters in a line)", "select R6 (rows shown)", "R6 = 25 (25 rows shown)", "R6 = 9 (9 rows shown)", "select $46 (rows shown)",
-            "read R6 (rows shown)", "select R20 (not built)", "bytes 01 00 02 05, controller write: lo is 2 and has to be 0 or 1", "read R20 (not built)"])
+            "R0 = 3 (4 characters in a line)", "select R6 (rows shown)", "R6 = 25 (25 rows shown)", "R6 = 9 (9 rows shown)", "select $46 (R6, rows shown)",
+            "read R6 (rows shown, cannot be read back)", "select R20 (left out here)",
+            "bytes 01 00 02 05, controller write: lo is 2 and has to be 0 or 1", "read R20 (left out here, cannot be read back)"])
+        self.assertEqual(labels_of(read_line("read R17"))[1], "read R17 (pen latch, low)")
 
     def test_pairs_are_found_from_the_left(self):
         data = read_line("select R1; select R2; write 5; read")

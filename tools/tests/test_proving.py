@@ -1,6 +1,10 @@
 """What is told of a run of rt while it proves."""
 import contextlib
 import io
+import os
+import signal
+import subprocess
+import time
 import unittest
 from unittest import mock
 
@@ -35,6 +39,7 @@ class Told(unittest.TestCase):
             progress = Progress("desk")
             progress.rewrites = rewrites
             proving.follow(None, proving.Proving(["listing"]), progress, ["listing"])
+            progress.close()
         return heard.getvalue()
 
     def test_each_crate_that_is_proved(self):
@@ -52,6 +57,23 @@ class Told(unittest.TestCase):
         self.assertEqual(told.count("0 of 3 crates proved"), 2)
         self.assertEqual(told.count("1 of 3 crates proved"), 2)
         self.assertTrue(told.endswith(" \r"))
+
+    def test_elsewhere_something_is_told_now_and_then(self):
+        with mock.patch.object(proving, "A_WHILE", -1):
+            self.assertEqual(self.told([None, None]).count("0 of 3 crates proved"), 2)
+
+
+class Stopped(unittest.TestCase):
+    """Somebody stops a run while rt proves."""
+
+    def test_what_rt_started_ends_too(self):
+        with subprocess.Popen(["sh", "-c", "sleep 60 & echo begun; wait"], stdout=subprocess.PIPE, start_new_session=True) as process:
+            with self.assertRaises(KeyboardInterrupt), proving.stopped_with_us(process):
+                process.stdout.readline()
+                os.kill(os.getpid(), signal.SIGTERM)
+                time.sleep(60)
+            self.assertEqual(process.stdout.read(), b"")  # whose end comes when the last that could write there is gone
+        self.assertEqual(signal.getsignal(signal.SIGTERM), signal.SIG_DFL)
 
 
 if __name__ == "__main__":

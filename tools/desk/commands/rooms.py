@@ -18,7 +18,7 @@ had no room for another answer of {ANSWER_BYTES} bytes.
 
 def room(word):
     """The length of the output."""
-    if not word.isdecimal() or len(word) > 5 or int(word) > MOST_ROOM:
+    if not (word.isascii() and word.isdecimal()) or len(word) > 5 or int(word) > MOST_ROOM:
         raise argparse.ArgumentTypeError(f"'{word}' is not a number of bytes from 0 to {MOST_ROOM}")
     return int(word)
 

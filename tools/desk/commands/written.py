@@ -1,4 +1,7 @@
 """A batch written in another form: as words, as commented hex, as bytes."""
+import os
+
+from ..batch import BadInput
 from ..writing import as_hex, as_words
 from .command import batch_command, batch_of
 
@@ -16,8 +19,16 @@ Writes the bytes of the batch, four to a record, to standard output. Meant for a
 file: './vorstelpijp bytes FILE > NEW.bin'.
 """
 
+
+def as_bytes(asked):
+    """The bytes; a terminal would take them for something else."""
+    if os.isatty(1):
+        raise BadInput("these are bytes, and standard output is a terminal; expected a file, as 'bytes FILE > NEW.bin'")
+    return batch_of(asked).data
+
+
 COMMANDS = (
     batch_command("words", "print a batch in words", WORDS, lambda asked: as_words(batch_of(asked))),
     batch_command("hex", "print a batch as commented hex", HEX, lambda asked: as_hex(batch_of(asked))),
-    batch_command("bytes", "write the bytes of a batch", BYTES, lambda asked: batch_of(asked).data),
+    batch_command("bytes", "write the bytes of a batch", BYTES, as_bytes),
 )
