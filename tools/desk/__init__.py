@@ -1,11 +1,11 @@
 """The desk program ./vorstelpijp: it turns words into records and answers into words. What the chips do, only the proved programs compute.
 
-settings    what a byte means to a register
-vocabulary  what registers, control bits and selects are called
-reading     words to records          wording    records to words
-hextext     hex to bytes              batch      a batch with the remarks of its file, and the files that hold one
-writing     a batch as words or hex   answers    answers in words
-refusals    why, and what to do       explaining the listing with words beside it
-proved      running proved programs   terminal   width and weight of what is shown
-commands/   the commands, one module each           main       the command line
+main        the command line            commands/   the commands, a module each
+files       the files that hold a batch batch       a batch and the remarks of its file
+reading     words to records            hextext     hex to bytes
+wording     records to words            writing     a batch as words or as hex
+explaining  the listing in words        answers     answers in words
+refusals    why, and what to do         proved      running proved programs
+vocabulary  what things are called      settings    what a byte means to a register
+terminal    width and weight of a text  trials      what tools/check-desk tries
 """

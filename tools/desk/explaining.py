@@ -4,8 +4,9 @@ import contextlib
 import records
 from commands import CannotRun
 from compared import LISTING, NotReadable
-from records import RECORD_BYTES, records_of
+from records import MOST_BATCH_BYTES, RECORD_BYTES, records_of
 from . import answers, refusals
+from .terminal import printable
 from .wording import labels_of
 from .writing import Remarks, text_of
 
@@ -13,11 +14,12 @@ BESIDE = 2  # spaces between two columns
 BEFORE_WORDS = 2 * RECORD_BYTES + BESIDE + 16 + BESIDE
 
 
-def reading_of(listing, count):
-    """A listing's answers and its ending."""
+def reading_of(listing, data):
+    """The answers and the ending of a batch's listing."""
     with contextlib.suppress(NotReadable):
         reading = LISTING.read(listing)
-        if len(reading.answers) == count or listing == refusals.TOO_LONG:
+        too_long = len(data) > MOST_BATCH_BYTES
+        if (listing == refusals.TOO_LONG) == too_long and len(reading.answers) == (0 if too_long else len(data) // RECORD_BYTES):
             return reading
     raise CannotRun("the program 'listing' printed what is no listing of this batch")
 
@@ -42,7 +44,7 @@ class Explained:
         number = answer[1]
         says = f"refused {number}, {refusals.reason(number)}" if number else answers.words_of(one, answer)
         words = (f"{label}: {says}" if says else label) + (f"  # {remark}" if remark else "")
-        self.lines.append(line_of(self.paper, one.hex(), line, words, number != 0))
+        self.lines.append(line_of(self.paper, one.hex(), line, printable(words), number != 0))
         if number:
             self.advise(refusals.ADVICE.get(number))
         else:
@@ -65,13 +67,12 @@ class Explained:
 
     def headings(self, remarks):
         """Remarks on lines of their own, folded as the others are."""
-        self.lines += [self.paper.laid("# ", line[2:]) if line.startswith("# ") else line for line in remarks]
+        self.lines += [self.paper.laid("# ", printable(line[2:])) if line.startswith("# ") else line for line in remarks]
 
 
 def explain(batch, listing, paper):
     """The whole text."""
-    whole = len(batch.data) // RECORD_BYTES
-    reading = reading_of(listing, whole)
+    reading = reading_of(listing, batch.data)
     if listing == refusals.TOO_LONG:
         return paper.laid(f"{reading.ending}: ", refusals.too_long(len(batch.data))) + "\n"
     made, remarks, lines = Explained(paper), Remarks(batch), listing.splitlines()
@@ -79,6 +80,6 @@ def explain(batch, listing, paper):
         made.headings(remarks.before(number))
         made.record(one, label, lines[number], answer, remarks.behind_record(number))
     made.headings(remarks.rest())
-    rest = batch.data[RECORD_BYTES * whole:]
+    rest = batch.data[RECORD_BYTES * len(reading.answers):]
     made.lines.append(line_of(paper, "", lines[-1], refusals.ending(reading.ending, rest, reading.answers), reading.ending != 0))
     return text_of(made.lines)

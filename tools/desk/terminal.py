@@ -12,7 +12,7 @@ BOLD, PLAIN = "\033[1m", "\033[0m"
 
 def printable(text):
     """A text with everything that a terminal would not show as a letter written out."""
-    return "".join(letter if letter.isprintable() or letter == "\n" else repr(letter)[1:-1] for letter in text)
+    return "".join(letter if letter.isprintable() or letter in "\t\n" else repr(letter)[1:-1] for letter in text)
 
 
 def tell(words):

@@ -131,7 +131,7 @@ class Explained(unittest.TestCase):
         self.assertEqual((lines[0][:7], lines[1][:7]), ("# words", "  words"))
 
     def test_what_is_no_listing_of_the_batch(self):
-        for listing in ("", "end 0\n", "0400000200000000\n", "0400000200000000\n0400000200000000\nend 0\n", "04000002000000\nend 0\n", "too short\n"):
+        for listing in ("", "end 0\n", "0400000200000000\n", "0400000200000000\n0400000200000000\nend 0\n", "04000002000000\nend 0\n", "too short\n", "too long\n"):
             with self.subTest(listing):
                 with self.assertRaises(CannotRun):
                     explained("strike", listing)

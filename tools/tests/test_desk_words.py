@@ -2,8 +2,8 @@
 import random
 import unittest
 
-from desk import hextext, reading
-from desk.batch import BadInput, Batch, Remark, decoded, read_text, without_labels
+from desk.batch import BadInput, Batch, Remark, from_hex, from_words
+from desk.files import decoded
 from desk.reading import FORMS, NotWords, read_line
 from desk.trials import edges
 from desk.wording import labels_of, statements_of
@@ -96,12 +96,12 @@ UNCLEAR = {
 
 def words_batch(text):
     """A batch in words."""
-    return read_text("some.batch", text, reading.read_line, whole_records=True)
+    return from_words("some.batch", text)
 
 
 def hex_batch(text):
     """A batch in hex."""
-    return without_labels(read_text("some.hex", text, hextext.read_line, whole_records=False))
+    return from_hex("some.hex", text)
 
 
 def some_batches():

@@ -2,7 +2,7 @@
 from typing import Callable, NamedTuple
 
 from .. import refusals
-from ..batch import BYTES, HEX, WORDS, read_batch
+from ..files import BYTES, HEX, WORDS, read_batch
 from ..proved import printed
 from ..reading import FORMS
 from ..terminal import tell
