@@ -42,10 +42,10 @@ class Proving:
         return bool(match.group(2))
 
     def under_way(self):
-        """The crates that rt has begun in this run and not told of yet."""
+        """The crates that rt has begun to prove in this run and not told of yet: for each it keeps what the prover says."""
         def begun(name):
             with contextlib.suppress(OSError):
-                return (LOGS / f"{name}.out").stat().st_mtime >= self.begun
+                return (LOGS / f"{name}.say").stat().st_mtime >= self.begun
             return False
         return [name for name in self.wanted if name not in self.proved and begun(name)]
 
@@ -58,7 +58,7 @@ class Proving:
 
 @contextlib.contextmanager
 def in_turn(progress):
-    """One run of rt at a time in this repository; another one is waited for. Gives the file that tells them: whoever has it open has the turn."""
+    """One run of rt at a time in this repository; another one is waited for. Gives the file by which they know: who has it open has the turn."""
     with open(TOP / "crates.txt", "rb") as file:
         try:
             fcntl.flock(file, fcntl.LOCK_EX | fcntl.LOCK_NB)
@@ -74,7 +74,8 @@ def stopped_with_us(process):
     def stop(_signal, _frame):
         raise KeyboardInterrupt
 
-    handlers = {number: signal.signal(number, stop) for number in (signal.SIGTERM, signal.SIGHUP)}
+    heard = [number for number in (signal.SIGTERM, signal.SIGHUP) if signal.getsignal(number) is not signal.SIG_IGN]
+    handlers = {number: signal.signal(number, stop) for number in heard}
     try:
         yield
     except BaseException:
@@ -113,10 +114,11 @@ def follow(process, proving, progress, names):
     announced, told_at = False, time.monotonic()
     for line in lines_of(process):
         proved_now = line is not None and proving.hear(line.rstrip("\n"))
-        if not announced and (proved_now or line is None):
+        waited = line is None and time.monotonic() - told_at > A_WHILE
+        if not announced and (proved_now or waited or line is None and proving.under_way()):
             announced = True
             progress.say(f"proving and building {' and '.join(names)}, which takes some minutes at first")
-        if proved_now or line is None and (progress.rewrites or time.monotonic() - told_at > A_WHILE):
+        if announced and (proved_now or waited or line is None and progress.rewrites):
             told_at = time.monotonic()
             progress.show(proving.told())
 

@@ -28,16 +28,18 @@ GREATEST_FIELDS = {
 ANSWER_BYTES = 8
 REFUSAL_NAMES = {
     0: "done",
-    1: "kind is 0 or above 9",
-    2: "a field not allowed",
-    3: "1 to 3 bytes remain",
-    4: "fewer than 8 output bytes remain",
-    5: "locate: no strike since reset",
-    6: "locate: strike outside the picture",
-    7: "locate: no cell fits",
-    8: "locate: two or more cells fit",
+    1: "there is no such kind",
+    2: "a field has a value that the kind does not allow",
+    3: "the last bytes are no whole record",
+    4: "the output has no room for another answer",
+    5: "the pen has not fired since the controller was reset",
+    6: "the strike was outside the picture",
+    7: "no cell of the picture fits the latch",
+    8: "two or more cells of the picture fit the latch",
 }
 ENDINGS = (0, 3, 4)
+# The bits that the narrower registers keep; the others keep all eight.
+KEPT_BITS = {4: 127, 5: 31, 6: 127, 7: 127, 9: 31, 10: 127, 11: 31, 12: 63, 14: 63}
 # The multiplexer's control bits in their order; each has two addresses from CONTROL on.
 CONTROL = 0xFFC0
 CONTROL_BITS = ("V0", "V1", "V2", "F0", "F1", "F2", "F3", "F4", "F5", "F6", "P", "R0", "R1", "M0", "M1", "TY")
@@ -131,6 +133,11 @@ def locate():
 def records_of(batch):
     """The records of a batch, four bytes each; the last may be shorter."""
     return [batch[at:at + RECORD_BYTES] for at in range(0, len(batch), RECORD_BYTES)]
+
+
+def records_before(place):
+    """How many records begin before a place of a batch."""
+    return -(-place // RECORD_BYTES)
 
 
 def is_allowed(one):

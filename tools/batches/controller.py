@@ -2,13 +2,11 @@
 numbers that it is given and from nothing else."""
 
 from records import (
-    clocks, get, joined, locate, put, reset_controller, status, strike,
+    KEPT_BITS, clocks, get, joined, locate, put, reset_controller, status, strike,
 )
 
 MOST_CLOCKS = 65535
 ADDRESSES = 16384
-# The bits that the narrower registers keep.
-KEPT_BITS = {4: 127, 5: 31, 6: 127, 7: 127, 9: 31, 10: 127, 11: 31, 12: 63, 14: 63}
 
 
 def small_setting(rng):

@@ -88,7 +88,7 @@ def located(_record, body):
 BY_KIND = {2: read, 3: clocked, 4: struck, 6: cycled, 7: fetched, 8: levelled, 9: located}
 
 
-def words_of(record, answer):
+def answer_words(record, answer):
     """What an answer that is not a refusal says beyond 'done', or nothing."""
     says = BY_KIND.get(answer[0])
     return says(record, answer[2:]) if says else ""

@@ -1,7 +1,7 @@
 """A batch with the remarks of its file, from words or from commented hex."""
 from typing import NamedTuple, Optional
 
-from records import RECORD_BYTES
+from records import RECORD_BYTES, records_before
 from . import hextext, reading
 from .wording import labels_of
 
@@ -60,7 +60,8 @@ def read_text(name, text, read_line, whole_records):
             wrong.append(f"{name}, line {number}: {problem}")
             continue
         if part and cut:
-            wrong.append(f"{name}, line {cut}: these bytes end inside a record, and line {number} follows; expected four bytes to each record")
+            wrong.append(f"{name}, line {cut}: these bytes end inside a record, and line {number} follows; "
+                         "expected four bytes to each record")
             break
         data += part
         cut = number if whole_records and part and len(data) % RECORD_BYTES else cut
@@ -75,7 +76,7 @@ def read_text(name, text, read_line, whole_records):
 
 def own_words(remark, labels):
     """A remark behind a record without the record's label, which `writing` puts there; None where nothing is left."""
-    place = -(-remark.at // RECORD_BYTES) - 1
+    place = records_before(remark.at) - 1
     if not remark.behind or remark.text is None or place < 0:
         return remark
     if remark.text == labels[place]:

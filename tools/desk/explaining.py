@@ -4,10 +4,10 @@ import contextlib
 import records
 from commands import CannotRun
 from compared import LISTING, NotReadable
-from records import MOST_BATCH_BYTES, RECORD_BYTES, records_of
+from records import MOST_BATCH_BYTES, RECORD_BYTES, REFUSAL_NAMES
 from . import answers, refusals
 from .terminal import printable
-from .wording import labels_of
+from .wording import spoken_of
 from .writing import Remarks, text_of
 
 BESIDE = 2  # spaces between two columns
@@ -19,7 +19,7 @@ def reading_of(listing, data):
     with contextlib.suppress(NotReadable):
         reading = LISTING.read(listing)
         too_long = len(data) > MOST_BATCH_BYTES
-        if (listing == refusals.TOO_LONG) == too_long and len(reading.answers) == (0 if too_long else len(data) // RECORD_BYTES):
+        if (reading.ending == refusals.TOO_LONG) == too_long and len(reading.answers) == (0 if too_long else len(data) // RECORD_BYTES):
             return reading
     raise CannotRun("the program 'listing' printed what is no listing of this batch")
 
@@ -30,6 +30,11 @@ def line_of(paper, record, answer, words, stands_out=False):
     return paper.laid(f"{record:<{2 * RECORD_BYTES}}{gap}{answer:<16}{gap}", words, stands_out)
 
 
+def with_remark(words, remark):
+    """Words with what the file says behind them, without anything that would move a terminal."""
+    return printable(f"{words}  # {remark}" if remark else words)
+
+
 class Explained:
     """The lines of an explained listing. What to do about a refusal is said where its number comes first."""
 
@@ -37,27 +42,15 @@ class Explained:
         self.paper = paper
         self.lines = []
         self.advised = set()
-        self.certain = False  # whether the controller was reset, and no register written since
 
-    def record(self, one, label, line, answer, remark):
-        """A record, its line of the listing, the answer there, and what the file says behind it."""
+    def record(self, spoken, line, answer, remark):
+        """A record in words, its line of the listing, the answer there, and what the file says behind it."""
         number = answer[1]
-        says = f"refused {number}, {refusals.reason(number)}" if number else answers.words_of(one, answer)
-        words = (f"{label}: {says}" if says else label) + (f"  # {remark}" if remark else "")
-        self.lines.append(line_of(self.paper, one.hex(), line, printable(words), number != 0))
-        if number:
-            self.advise(refusals.ADVICE.get(number))
-        else:
-            self.follow(one)
-
-    def follow(self, one):
-        """Keeps whether a locate is certain, and says it where one is not."""
-        if one == records.reset_controller():
-            self.certain = True
-        elif one == records.write(one[3]):
-            self.certain = False
-        elif one == records.locate() and not self.certain:
-            self.advise(refusals.UNSURE)
+        unsure = not number and not spoken.certain and spoken.data == records.locate()
+        says = f"refused {number}, {REFUSAL_NAMES[number]}" if number else answers.answer_words(spoken.data, answer)
+        words = (f"{spoken.label}: {says}" if says else spoken.label) + (f" ({refusals.UNSURE})" if unsure else "")
+        self.lines.append(line_of(self.paper, spoken.data.hex(), line, with_remark(words, remark), number != 0 or unsure))
+        self.advise(refusals.WHY_UNSURE if unsure else refusals.ADVICE.get(number))
 
     def advise(self, words):
         """What to do about an answer, once."""
@@ -73,13 +66,14 @@ class Explained:
 def explain(batch, listing, paper):
     """The whole text."""
     reading = reading_of(listing, batch.data)
-    if listing == refusals.TOO_LONG:
+    if reading.ending == refusals.TOO_LONG:
         return paper.laid(f"{reading.ending}: ", refusals.too_long(len(batch.data))) + "\n"
     made, remarks, lines = Explained(paper), Remarks(batch), listing.splitlines()
-    for number, (one, label, answer) in enumerate(zip(records_of(batch.data), labels_of(batch.data), reading.answers)):
+    for number, (spoken, answer) in enumerate(zip(spoken_of(batch.data), reading.answers)):
         made.headings(remarks.before(number))
-        made.record(one, label, lines[number], answer, remarks.behind_record(number))
+        made.record(spoken, lines[number], answer, remarks.behind_record(number))
+    count = len(reading.answers)
     made.headings(remarks.rest())
-    rest = batch.data[RECORD_BYTES * len(reading.answers):]
-    made.lines.append(line_of(paper, "", lines[-1], refusals.ending(reading.ending, rest, reading.answers), reading.ending != 0))
+    words = refusals.ending(reading.ending, batch.data[RECORD_BYTES * count:], reading.answers)
+    made.lines.append(line_of(paper, "", lines[-1], with_remark(words, remarks.behind_record(count)), reading.ending != 0))
     return text_of(made.lines)

@@ -1,5 +1,6 @@
 """The files that hold a batch: words, commented hex, or bytes."""
 import codecs
+import contextlib
 import os
 import stat
 
@@ -8,14 +9,14 @@ from .batch import BadInput, Batch, from_hex, from_words
 from .terminal import tell
 
 WORDS, HEX, BYTES = "words", "hex", "bytes"
-ENDINGS = {".batch": WORDS, ".hex": HEX, ".bin": BYTES}
+BY_SUFFIX = {".batch": WORDS, ".hex": HEX, ".bin": BYTES}
 MOST_STREAM = 1 << 26  # bytes; far more than any batch, so that an input that never ends is told
 STANDARD_INPUT = "-"
 
 
 def form_of(name, said):
     """How a file's bytes are meant: as was said, or by its ending."""
-    form = said or ENDINGS.get(os.path.splitext(name)[1].lower())
+    form = said or BY_SUFFIX.get(os.path.splitext(name)[1].lower())
     if form is None:
         raise BadInput(f"{name}: cannot tell what it holds; expected a name that ends in .batch (words), .hex (hex) or .bin (bytes), "
                        "or one of --as words, --as hex and --as bytes")
@@ -30,11 +31,20 @@ def see_a_file(name):
         raise BadInput(f"{name}: there is no such file")
 
 
+def see_another_output(name, file):
+    """Sees that standard output does not go to the file itself, which would then be empty or grow."""
+    with contextlib.suppress(OSError):
+        if os.path.sameopenfile(file.fileno(), 1):
+            raise BadInput(f"{name}: standard output goes to this very file, so that the shell has emptied it or would add to it; "
+                           "expected another file behind '>'")
+
+
 def read_bytes(name, place):
     """All bytes of a file or of standard input. place is its path, or its number."""
     try:
         with open(place, "rb", closefd=place != 0) as file:
             if stat.S_ISREG(os.fstat(file.fileno()).st_mode):
+                see_another_output(name, file)
                 return file.read()
             given = file.read(MOST_STREAM + 1)
     except (OSError, ValueError) as problem:

@@ -2,6 +2,7 @@
 
 from .terminal import shortened
 
+EXPECTED = "expected two hex digits to a byte, and '#' before a comment"
 DIGITS = set("0123456789abcdefABCDEF")
 
 
@@ -15,9 +16,9 @@ def bytes_of_words(words):
     for word in words:
         for letter in word:
             if letter not in DIGITS:
-                raise NotHex(f"{letter!r} in '{shortened(word)}' is not a hex digit")
+                raise NotHex(f"{letter!r} in '{shortened(word)}' is not a hex digit; {EXPECTED}")
         if len(word) % 2:
-            raise NotHex(f"'{shortened(word)}' has an odd number of hex digits")
+            raise NotHex(f"'{shortened(word)}' has an odd number of hex digits; {EXPECTED}")
         given.append(bytes.fromhex(word))
     return b"".join(given)
 

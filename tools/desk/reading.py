@@ -12,6 +12,7 @@ from .vocabulary import REGISTER_NUMBERS
 BYTE, COUNT, LEVEL = 255, 65535, 1  # the greatest values
 MOST_DIGITS = 8  # that any number in range has
 SEPARATOR = ";"
+SHAPE_OF_BYTES = "bytes 0a 01 02 03"
 BITS = "V0 V1 V2 F0 to F6 P R0 R1 M0 M1 TY"
 
 
@@ -44,7 +45,7 @@ def number(word, most, what):
     return value
 
 
-def register(word):
+def register_number(word):
     """The number of a register that is named R0 to R31."""
     match = re.fullmatch(r"[Rr]([0-9]{1,2})", word)
     if not match or int(match.group(1)) >= REGISTER_NUMBERS:
@@ -62,23 +63,24 @@ def taken(words, count, shape):
     if len(words) < count:
         raise NotWords(f"something is missing; expected it as in '{shape}'")
     if len(words) > count:
-        raise NotWords(f"'{shortened(words[count])}' is too much; expected it as in '{shape}', with ';' before another record and '#' before a comment")
+        raise NotWords(f"'{shortened(words[count])}' is too much; expected it as in '{shape}', "
+                       "with ';' before another record and '#' before a comment")
     return words
 
 
 def assign(words):
     """The register, '=' and its value."""
-    number_of = register(words[0])
+    target = register_number(words[0])
     if words[1:2] != ["="]:
         raise NotWords(f"expected '=' behind it, as in '{shortened(words[0])} = 63'")
     value, = taken(words[2:], 1, f"{words[0]} = 63")
-    return records.put(number_of, number(value, BYTE, "a register's value"))
+    return records.put(target, number(value, BYTE, "a register's value"))
 
 
 def select(words):
     """By the register's name, or by any byte."""
     word, = taken(words, 1, "select R16")
-    return records.select(register(word) if is_register(word) else number(word, BYTE, "what names a register"))
+    return records.select(register_number(word) if is_register(word) else number(word, BYTE, "what names a register"))
 
 
 def write(words):
@@ -92,7 +94,7 @@ def read(words):
     if not words:
         return records.read()
     word, = taken(words, 1, "read' or 'read R16")
-    return records.get(register(word))
+    return records.get(register_number(word))
 
 
 def clock(words):
@@ -146,9 +148,9 @@ def as_they_stand(words):
     try:
         given = bytes_of_words(words)
     except NotHex as problem:
-        raise NotWords(f"{problem}; expected bytes in hex, as 'bytes 0a 01 02 03'") from problem
+        raise NotWords(f"{problem}, as in '{SHAPE_OF_BYTES}'") from problem
     if not given:
-        raise NotWords("expected bytes in hex, as 'bytes 0a 01 02 03'")
+        raise NotWords(f"expected bytes in hex, as in '{SHAPE_OF_BYTES}'")
     return given
 
 
@@ -172,7 +174,7 @@ FORMS = (
     Form("clear TY", f"or clears it: {BITS}", lambda words: control(words, 0, "clear TY")),
     Form("fetch 32", "32 display fetches; 'fetch 0' is a look where they stand", fetch),
     Form("levels HS 0 DA0 1", "the levels of HS and DA0", levels),
-    Form("bytes 0a 01 02 03", "a record as it is, in hex, when it is to be damaged", as_they_stand),
+    Form(SHAPE_OF_BYTES, "a record as it is, in hex, when it is to be damaged", as_they_stand),
 )
 BY_FIRST_WORD = {form.first: form for form in FORMS if form.read is not assign}
 

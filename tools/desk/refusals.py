@@ -1,34 +1,28 @@
 """Why a record was refused or a replay ended, and what to do about it."""
 from records import GREATEST_FIELDS, KIND_NAMES, MOST_BATCH_BYTES, RECORD_BYTES
 
-TOO_LONG = "too long\n"
+TOO_LONG = "too long"
 EMPTY = "the batch is empty: it has no record"
 FIELDS = ("hi", "lo", "data")
 MOST_RECORDS = MOST_BATCH_BYTES // RECORD_BYTES
 
-REASONS = {
-    1: "there is no such kind",
-    2: "a field has a value that the kind does not allow",
-    5: "the pen has not fired since the controller was reset",
-    6: "the strike was outside the picture",
-    7: "no cell of the picture fits the latch",
-    8: "two or more cells of the picture fit the latch",
-}
 ADVICE = {
     1: "Kinds are 1 to 9. If the records behind it are refused too, a byte is missing or too many somewhere before.",
     2: "Mend the field that is named. If the records behind it are refused too, a byte is missing or too many somewhere before.",
     5: "Put a strike between the reset and the locate; a reset forgets all strikes.",
-    6: "The latch is no position, though a cell may have that address: the pen fired in a blanked part. Look at the clock line before the "
-       "strike: 'picture' has to stand there. On the bench, see whether the pen picks up light from the border, or fires late.",
-    7: "By the registers as they stand no cell has that address: one was written since the strike, or R12 or R13 in this frame, which count for "
-       "the scan from the next frame or reset on. Put the reset behind the setting, and locate before you write another register.",
+    6: "The latch is no position, though a cell may leave the same: the pen fired in a blanked part. The clock line before a good strike says "
+       "'picture', and not 'outside the picture'. On the bench, see whether the pen picks up light from the border, or fires late.",
+    7: "A register was written after the controller's reset, or there was none, and the scan is not where the registers as they stand would "
+       "have it; R12 and R13, for one, count only from the next frame or reset on. Put the reset behind the setting, and locate before you "
+       "write another register.",
     8: "The pen cannot tell these cells apart: the picture has more cells than addresses, or its rows share some. Make the picture "
        "smaller, or show the part that matters alone, and fire again.",
 }
 
-# Said once where a strike is located after registers were written.
-UNSURE = ("Registers were written after the controller's last reset, or it had none. This is the cell that fits the latch by the registers as "
-          "they stand now. That it is where the pen was is certain only where none is written between reset and locate.")
+# Beside each cell that is located after registers were written, and what it means, once.
+UNSURE = "not certain"
+WHY_UNSURE = ("Registers were written after the controller's last reset, or it had none. This is the cell that fits the latch by the registers "
+              "as they stand now. That it is where the pen was is certain only where none is written between reset and locate.")
 
 
 def named_limit(most):
@@ -47,11 +41,6 @@ def why_not_allowed(one):
     return f"{KIND_NAMES[one[0]]}: {', '.join(wrong)}"
 
 
-def reason(number):
-    """Why a record was refused."""
-    return REASONS.get(number, "for a reason that this desk does not know")
-
-
 def ending(number, rest, answers=()):
     """What a listing's last line says; rest is what follows the last whole record."""
     refused = sum(bool(answer[1]) for answer in answers)
@@ -61,7 +50,7 @@ def ending(number, rest, answers=()):
         return "every record was answered" + (f", {refused} with a refusal" if refused else "")
     if number == 3 and rest:
         return (f"the last bytes, {rest.hex(' ')}, are {len(rest)} of a record's {RECORD_BYTES}: the file was cut, or a byte is missing "
-                "or too many somewhere before. What stands above is answered all the same.")
+                "or too many somewhere before. All whole records are answered.")
     return "the replay ended before the batch did"
 
 
@@ -71,11 +60,10 @@ def too_long(length):
             "where you can begin each part with the setting: the chips start fresh in each run.")
 
 
-def surprise(data, text):
-    """What somebody has to know of a batch whose answers end otherwise than he may think; None where there is nothing."""
-    if text == TOO_LONG:
+def surprise(data, end):
+    """What somebody has to know of a replay that ended otherwise than he may think; None where there is nothing."""
+    if end == TOO_LONG:
         return too_long(len(data))
     if not data:
         return EMPTY
-    rest = data[len(data) // RECORD_BYTES * RECORD_BYTES:]
-    return ending(3, rest) if rest else None
+    return ending(3, data[len(data) // RECORD_BYTES * RECORD_BYTES:]) if end == 3 else None

@@ -1,28 +1,28 @@
 """What a byte means to the register that it is written to, in words."""
+from records import KEPT_BITS
 from .vocabulary import in_hex, register_value
 
-KEPT = {4: 7, 5: 5, 6: 7, 7: 7, 9: 5, 10: 7, 11: 5, 12: 6, 14: 6}  # bits, of the registers that do not keep all eight
 LAST_WRITTEN = 15
 MODES = ((0x04, "addresses by row and column"), (0x10, "display enable delayed"), (0x20, "cursor delayed"))
-LEFT_OUT = (0, 1, 3, 6, 7)  # bits of R8, by number
+UNUSED_MODES = (0, 1, 3, 6, 7)  # bits of R8, by number
 BLINKS = ("steady", "never shown", "blinking, 8 frames on and 8 off", "blinking, 16 frames on and 16 off")
 
 
-def counted(number, one, many):
+def number_of(number, one, many):
     """A number of things."""
     return f"{number} {one if number == 1 else many}"
 
 
 def widths(value):
     """R3."""
-    return (f"HSYNC {counted(value % 16, 'character', 'characters')} long, "
-            f"VSYNC {counted(value // 16 or 16, 'line', 'lines')} long")
+    return (f"HSYNC {number_of(value % 16, 'character', 'characters')} long, "
+            f"VSYNC {number_of(value // 16 or 16, 'line', 'lines')} long")
 
 
 def modes(value):
     """R8."""
     words = ", ".join(name for bit, name in MODES if value & bit) or "straight binary addresses, no delay"
-    others = [str(bit) for bit in LEFT_OUT if value >> bit & 1]
+    others = [str(bit) for bit in UNUSED_MODES if value >> bit & 1]
     return f"{words}; left out here: bit {' and bit '.join(others)}" if others else words
 
 
@@ -32,16 +32,16 @@ def cursor(value):
 
 
 MEANINGS = (
-    lambda value: f"{counted(value + 1, 'character', 'characters')} in a line",
-    lambda value: f"{counted(value, 'character', 'characters')} shown in a line",
+    lambda value: f"{number_of(value + 1, 'character', 'characters')} in a line",
+    lambda value: f"{number_of(value, 'character', 'characters')} shown in a line",
     lambda value: f"HSYNC begins at column {value}",
     widths,
-    lambda value: f"{counted(value + 1, 'row', 'rows')} in a frame",
-    lambda value: counted(value, "adjust line", "adjust lines"),
-    lambda value: f"{counted(value, 'row', 'rows')} shown",
+    lambda value: f"{number_of(value + 1, 'row', 'rows')} in a frame",
+    lambda value: number_of(value, "adjust line", "adjust lines"),
+    lambda value: f"{number_of(value, 'row', 'rows')} shown",
     lambda value: f"VSYNC begins with row {value}",
     modes,
-    lambda value: f"{counted(value + 1, 'line', 'lines')} in a row",
+    lambda value: f"{number_of(value + 1, 'line', 'lines')} in a row",
     cursor,
     lambda value: f"cursor to line {value}",
     lambda value: f"start address {in_hex(value, 2)}xx",
@@ -55,6 +55,6 @@ def meaning(number, value):
     """What a byte written to a register means there."""
     if number > LAST_WRITTEN:
         return "cannot be written, so nothing changes"
-    bits = KEPT.get(number, 8)
-    words = MEANINGS[number](value % 2 ** bits)
-    return words if value < 2 ** bits else f"{bits} bits are kept, {register_value(number, value % 2 ** bits)}: {words}"
+    mask = KEPT_BITS.get(number, 255)
+    kept, words = value & mask, MEANINGS[number](value & mask)
+    return words if kept == value else f"{mask.bit_length()} bits are kept, {register_value(number, kept)}: {words}"

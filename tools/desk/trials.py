@@ -1,6 +1,7 @@
 """What tools/check-desk tries the desk program on."""
 from typing import NamedTuple
 
+from commands import TOP
 from records import GREATEST_FIELDS, record
 
 
@@ -12,6 +13,11 @@ class Trial(NamedTuple):
     printed: bytes
     said: tuple
     files: dict = {}
+
+    def is_met_by(self, status, printed, said):
+        """Whether a call ended and said what is due; where nothing is due on standard error, it said nothing there."""
+        heard = all(part in said for part in self.said) if self.said else not said
+        return heard and (status, printed) == (self.status, self.printed)
 
 
 def edges():
@@ -28,7 +34,7 @@ def edges():
 
 
 STRIKE = bytes((4, 0, 0, 0))
-LATCHED = b"0400000200000000\n"
+LATCHED, DONE = b"0400000200000000\n", b"0100000000000000\n"
 
 TRIALS = (
     Trial(("listing", "good.batch"), 0, LATCHED + b"end 0\n", (), {"good.batch": b"strike  # latch 2\r\n"}),
@@ -44,9 +50,17 @@ TRIALS = (
     Trial(("listing", "-"), 2, b"", ("standard input", "--as")),
     Trial(("listing", "empty.batch"), 0, b"end 0\n", ("the batch is empty",), {"empty.batch": b""}),
     Trial(("listing", "cut.bin"), 0, LATCHED + b"end 3\n", ("09 00", "2 of a record's 4"), {"cut.bin": STRIKE + b"\x09\0"}),
+    Trial(("explain", "cut.bin"), 0, b"          end 3             the last bytes, 09, are 1 of a record's 4: the file was cut, or a byte is missing "
+          b"or too many somewhere before. All whole records are answered.\n", (), {"cut.bin": b"\x09"}),
     Trial(("words", "cut.bin"), 0, b"strike\nbytes 09 00\n", (), {"cut.bin": STRIKE + b"\x09\0"}),
     Trial(("listing", "long.bin"), 0, b"too long\n", ("5,000 bytes", "4,096", "1,024 records", "fresh"), {"long.bin": bytes(5000)}),
     Trial(("rooms", "8", "two.batch"), 0, b"0400040001000000\n" + LATCHED, (), {"two.batch": b"strike; strike\n"}),
+    Trial(("rooms", "8", "cut.batch"), 0, b"0400040001000000\n" + LATCHED, (), {"cut.batch": b"strike; strike; bytes 09\n"}),
+    Trial(("explain", "GOOD.BATCH"), 0, b"04000000  0400000200000000  strike: latch $0002, outside the picture\n"
+          b"          end 0             every record was answered\n", (), {"GOOD.BATCH": b"strike\n"}),
+    Trial(("listing", "kept.batch"), 0, 3 * DONE + b"0200013f00000000\n" + 3 * DONE + b"020001ff00000000\nend 0\n", (),
+          {"kept.batch": b"R14 = $FF; read R14; R15 = $FF; read R15\n"}),
+    Trial(("cases",), 0, (TOP / "crates/cases/stdout").read_bytes(), ()),
     Trial(("rooms", "9000", "two.batch"), 2, b"", ("0 to 8192",), {"two.batch": b"strike; strike\n"}),
     Trial(("listen", "two.batch"), 2, b"", ("listen", "listing"), {"two.batch": b"strike; strike\n"}),
     Trial((), 2, b"", ("usage", "explain")),

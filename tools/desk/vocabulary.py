@@ -21,12 +21,12 @@ REGISTERS = (
     "pen latch, low",
 )
 REGISTER_NUMBERS = 32  # that five bits can name
-LEFT_OUT = "left out here"  # R18 to R31
+LEFT_OUT, NOT_DRIVEN = "left out here", "not driven"  # R18 to R30, and R31
 READ_BACK = (14, 15, 16, 17)  # the registers that a read brings
 # Registers that are bits or parts of an address: their values are written in hex.
 IN_HEX = {3, 8, 10, 12, 13, 14, 15, 16, 17}
 
-CONTROL_BITS = {"V": "display mode", "F": "display offset", "P": "page", "R": "rate", "M": "memory size", "T": "map type"}
+CONTROL_GROUPS = {"V": "display mode", "F": "display offset", "P": "page", "R": "rate", "M": "memory size", "T": "map type"}
 
 SELECTS = ("RAM", "ROM 0", "ROM 1", "ROM 2", "I/O 0", "I/O 1", "I/O 2", "no device")
 TICKS = {8: "fast", 16: "slow"}
@@ -34,12 +34,14 @@ TICKS = {8: "fast", 16: "slow"}
 
 def register(number):
     """A register by its number, in words."""
-    return REGISTERS[number] if number < len(REGISTERS) else LEFT_OUT
+    if number < len(REGISTERS):
+        return REGISTERS[number]
+    return LEFT_OUT if number < REGISTER_NUMBERS - 1 else NOT_DRIVEN
 
 
 def control_bit(name):
     """A control bit by its name, in words."""
-    return CONTROL_BITS[name[0]]
+    return CONTROL_GROUPS[name[0]]
 
 
 def in_hex(number, digits=4):

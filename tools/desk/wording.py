@@ -4,7 +4,7 @@ from typing import NamedTuple
 import records
 from records import CONTROL, CONTROL_BITS, RECORD_BYTES, is_allowed, records_of
 from .refusals import why_not_allowed
-from .settings import meaning
+from .settings import LAST_WRITTEN, meaning
 from .vocabulary import READ_BACK, REGISTER_NUMBERS, control_bit, in_hex, register, register_value
 
 CHIPS = ("controller", "multiplexer")
@@ -16,6 +16,14 @@ class Statement(NamedTuple):
     at: int
     data: bytes
     words: str
+
+
+class Spoken(NamedTuple):
+    """A record, and what is said of it."""
+
+    data: bytes
+    label: str
+    certain: bool  # whether the controller was reset before it, and no register written since
 
 
 def control_name(address):
@@ -95,11 +103,20 @@ def label_of(one, named):
     return f"{words} ({control_bit(name)})" if name else words
 
 
-def labels_of(data):
-    """A label for each record of a batch; the register that is meant is the one that was named last, and R0 at first."""
-    labels, named = [], 0
+def spoken_of(data):
+    """The records of a batch, each with its label. The register that is meant is the one that was named last, and R0 at first."""
+    made, named, certain = [], 0, False
     for one in records_of(data):
-        labels.append(label_of(one, named))
-        if is_allowed(one) and one[0] == 1 and one[2] == 0:
-            named = one[3] % REGISTER_NUMBERS
-    return labels
+        made.append(Spoken(one, label_of(one, named), certain))
+        if one == records.reset_controller():
+            certain = True
+        elif one[:3] == records.select(0)[:3]:
+            named = one[-1] % REGISTER_NUMBERS
+        elif one[:3] == records.write(0)[:3] and named <= LAST_WRITTEN:
+            certain = False
+    return made
+
+
+def labels_of(data):
+    """A label for each record of a batch."""
+    return [spoken.label for spoken in spoken_of(data)]

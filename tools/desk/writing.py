@@ -1,15 +1,10 @@
 """A batch as words and as commented hex, with the remarks of its file."""
 import collections
 
-from records import RECORD_BYTES, records_of
+from records import RECORD_BYTES, records_before, records_of
 from .wording import Statement, labels_of, statements_of
 
 WORDS_COLUMN = 24  # where a remark behind words begins
-
-
-def records_before(place):
-    """How many records stand before a place; one in which it lies counts as well."""
-    return -(-place // RECORD_BYTES)
 
 
 class Remarks:

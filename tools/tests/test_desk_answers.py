@@ -3,7 +3,7 @@ import unittest
 
 from commands import CannotRun
 from desk import refusals
-from desk.answers import words_of
+from desk.answers import answer_words
 from desk.batch import Batch, Remark
 from desk.explaining import explain
 from desk.reading import read_line
@@ -46,7 +46,9 @@ MEANINGS = {
     (8, 0x07): "addresses by row and column; left out here: bit 0 and bit 1",
     (10, 0x66): "cursor from line 6 on, blinking, 16 frames on and 16 off", (10, 0x20): "cursor from line 0 on, never shown",
     (12, 0xFF): "6 bits are kept, $3F: start address $3Fxx", (15, 7): "cursor address $xx07", (16, 5): "cannot be written, so nothing changes",
-    (31, 5): "cannot be written, so nothing changes",
+    (31, 5): "cannot be written, so nothing changes", (5, 255): "5 bits are kept, 31: 31 adjust lines", (9, 33): "5 bits are kept, 1: 2 lines in a row",
+    (14, 0x40): "6 bits are kept, $00: cursor address $00xx", (10, 0x41): "cursor from line 1 on, blinking, 8 frames on and 8 off",
+    (8, 0xC8): "straight binary addresses, no delay; left out here: bit 3 and bit 6 and bit 7",
 }
 
 
@@ -61,7 +63,7 @@ class Answers(unittest.TestCase):
     def test_answers(self):
         for statement, answer, said in ANSWERED:
             with self.subTest(f"{statement} {answer}"):
-                self.assertEqual(words_of(read_line(statement), bytes.fromhex(answer)), said)
+                self.assertEqual(answer_words(read_line(statement), bytes.fromhex(answer)), said)
 
     def test_what_a_byte_means_to_a_register(self):
         for (number, value), said in MEANINGS.items():
@@ -101,12 +103,37 @@ class Explained(unittest.TestCase):
                                     (("write 3", "reset controller", "strike", "locate"), True)):
             with self.subTest(statements):
                 listing = "".join(f"{answers[one]}\n" for one in statements) + "end 0\n"
-                self.assertEqual("-> Registers were written" not in "\n".join(explained("; ".join(statements), listing)), certain)
+                text = "\n".join(explained("; ".join(statements), listing))
+                self.assertEqual("-> Registers were written" not in text, certain)
+                self.assertEqual("row 0, column 1 (not certain)" not in text, certain)
+
+    def test_each_cell_that_is_not_certain_is_marked(self):
+        lines = explained("locate; locate", "0900000100000000\n0900000100000000\nend 0\n")
+        self.assertEqual([("(not certain)" in line, "->" in line) for line in lines], [(True, False), (False, True), (True, False), (False, False)])
+
+    def test_only_what_a_write_changes_makes_a_cell_uncertain(self):
+        for number, certain in ((0, False), (15, False), (16, True), (31, True)):
+            with self.subTest(number):
+                listing = "0500000000000000\n0100000000000000\n0100000000000000\n0900000100000000\nend 0\n"
+                lines = explained(f"reset controller; R{number} = 1; locate", listing)
+                self.assertEqual("(not certain)" not in lines[3], certain)
 
     def test_each_refusal_has_its_reason_and_its_advice(self):
-        for number in (1, 2, 5, 6, 7, 8):
-            self.assertIn(number, refusals.REASONS)
-            self.assertIn(number, refusals.ADVICE)
+        for number, reason, advice in ((1, "no such kind", "Kinds are 1 to 9"), (2, "does not allow", "Mend the field"), (5, "has not fired", "Put a strike"),
+                                       (6, "outside the picture", "blanked part"), (7, "no cell", "Put the reset behind"), (8, "two or more", "smaller")):
+            with self.subTest(number):
+                lines = explained("locate", f"09{number:02}000000000000\nend 0\n")
+                self.assertIn(f"refused {number}, ", lines[0])
+                self.assertIn(reason, lines[0])
+                self.assertIn(advice, lines[1])
+
+    def test_a_remark_behind_the_last_bytes(self):
+        lines = explain(Batch(b"\x09", (Remark(1, "mine", True),)), "end 3\n", Paper()).splitlines()
+        self.assertTrue(lines[0].endswith("# mine"), lines)
+
+    def test_nothing_of_a_remark_moves_the_terminal(self):
+        text = explain(Batch(b"", (Remark(0, "\033[2J", False),)), "end 0\n", Paper())
+        self.assertIn("# \\x1b[2J", text)
 
     def test_bytes_behind_the_last_record(self):
         lines = explained("strike; bytes 09 00", "0400000200000000\nend 3\n")

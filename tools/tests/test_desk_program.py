@@ -1,5 +1,6 @@
 """The desk program as a command: its help, how it ends, and what it needs."""
 import os
+import pty
 import shutil
 import subprocess
 import sys
@@ -8,8 +9,11 @@ import unittest
 from unittest import mock
 
 from commands import TOP
+from desk.batch import BadInput
 from desk.commands import COMMANDS
+from desk.files import read_batch
 from desk.main import command_line, main
+from desk.terminal import Paper
 
 # It knows where the toolchain is, and proves nothing.
 RT = f"""#!/bin/sh
@@ -81,6 +85,45 @@ class Ends(unittest.TestCase):
                                   stderr=subprocess.PIPE)
         self.assertEqual(done.returncode, 1)
         self.assertIn(b"standard output cannot be written", done.stderr)
+
+    def test_an_output_that_nobody_reads(self):
+        read, written = os.pipe()
+        os.close(read)
+        with open(written, "wb") as pipe:
+            done = subprocess.run([sys.executable, TOP / "vorstelpijp", "words", "--as", "bytes", "-"], input=b"\x04\0\0\0", stdout=pipe, stderr=subprocess.PIPE)
+        self.assertEqual((done.returncode, done.stderr), (1, b""))
+
+    def test_an_output_that_is_the_input(self):
+        with tempfile.TemporaryDirectory() as folder:
+            path = os.path.join(folder, "own.batch")
+            with open(path, "wb") as file:
+                file.write(b"strike\n")
+            with open(path, "ab") as file:
+                done = subprocess.run([sys.executable, TOP / "vorstelpijp", "words", path], stdout=file, stderr=subprocess.PIPE)
+            self.assertEqual(done.returncode, 2)
+            self.assertIn(b"this very file", done.stderr)
+            with open(path, "rb") as file:
+                self.assertEqual(file.read(), b"strike\n")
+
+    def test_bytes_are_not_for_a_terminal(self):
+        leader, terminal = pty.openpty()
+        done = subprocess.run([sys.executable, TOP / "vorstelpijp", "bytes", "--as", "hex", "-"], input=b"04000000", stdout=terminal, stderr=subprocess.PIPE)
+        os.close(terminal)
+        os.close(leader)
+        self.assertEqual(done.returncode, 2)
+        self.assertIn(b"NEW.bin", done.stderr)
+
+    def test_an_input_that_never_ends(self):
+        with mock.patch("desk.files.MOST_STREAM", 1000):
+            with self.assertRaisesRegex(BadInput, "more than 1,000 bytes have come"):
+                read_batch("/dev/zero", "bytes")
+
+    def test_a_terminal_that_wants_no_weight(self):
+        for settings, heavy in (({"TERM": "xterm"}, True), ({"TERM": "dumb"}, False), ({"TERM": "xterm", "NO_COLOR": "1"}, False)):
+            with self.subTest(settings), mock.patch("os.isatty", lambda number: True), mock.patch.dict(os.environ, settings, clear=True):
+                self.assertEqual(Paper.of_output().heavy, heavy)
+        with mock.patch("os.isatty", lambda number: False):
+            self.assertIsNone(Paper.of_output().width)
 
     def test_somebody_stops_it(self):
         with mock.patch("desk.main.run", side_effect=KeyboardInterrupt), mock.patch("desk.main.tell") as told:

@@ -1,6 +1,8 @@
 """What a command is, and what those that take a batch have in common."""
 from typing import Callable, NamedTuple
 
+from commands import CannotRun
+from compared import NotReadable
 from .. import refusals
 from ..files import BYTES, HEX, WORDS, read_batch
 from ..proved import printed
@@ -54,8 +56,11 @@ def batch_command(name, summary, about, run, add_arguments=add_batch):
 
 def replayed(program, batch, given):
     """What a proved program prints for a batch, with a word on standard error where that may surprise."""
-    text = printed(program, given)
-    surprise = refusals.surprise(batch.data, text)
+    text = printed(program.name, given)
+    try:
+        surprise = refusals.surprise(batch.data, program.read(text).ending)
+    except NotReadable as problem:
+        raise CannotRun(f"the program '{program.name}' printed what it does not print of any batch") from problem
     if surprise:
         tell(surprise)
     return text

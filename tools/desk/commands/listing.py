@@ -1,4 +1,5 @@
 """The listing of a batch, as the proved program prints it."""
+from compared import LISTING
 from .command import batch_command, batch_of, replayed
 
 ABOUT = """\
@@ -11,7 +12,7 @@ and how the replay ended. 'explain' has it in words.
 def run(asked):
     """The listing."""
     batch = batch_of(asked)
-    return replayed("listing", batch, batch.data)
+    return replayed(LISTING, batch, batch.data)
 
 
 COMMAND = batch_command("listing", "replay a batch and print its listing", ABOUT, run)

@@ -1,7 +1,7 @@
 """A replay into an output of a chosen length."""
 import argparse
 
-from compared.rooms import in_room
+from compared.rooms import ROOMS, in_room
 from records import ANSWER_BYTES, MOST_BATCH_BYTES, RECORD_BYTES
 from .command import add_batch, batch_command, batch_of, replayed
 
@@ -32,7 +32,7 @@ def add_arguments(parser):
 def run(asked):
     """What the replay leaves in the output."""
     batch = batch_of(asked)
-    return replayed("rooms", batch, in_room(asked.room, batch.data))
+    return replayed(ROOMS, batch, in_room(asked.room, batch.data))
 
 
 COMMAND = batch_command("rooms", "replay a batch into an output of a chosen length", ABOUT, run, add_arguments)

@@ -5,16 +5,16 @@ from ..batch import BadInput
 from ..writing import as_hex, as_words
 from .command import batch_command, batch_of
 
-WORDS = """\
+ABOUT_WORDS = """\
 Prints the batch in words, with the comments of its file. Reading the words
 gives the same bytes again: a record that is damaged, and one to three bytes at
 the end, are written as bytes.
 """
-HEX = """\
+ABOUT_HEX = """\
 Prints the batch as hex, a record a line with what it is behind it, and with the
 comments of its file.
 """
-BYTES = """\
+ABOUT_BYTES = """\
 Writes the bytes of the batch, four to a record, to standard output. Meant for a
 file: './vorstelpijp bytes FILE > NEW.bin'.
 """
@@ -28,7 +28,7 @@ def as_bytes(asked):
 
 
 COMMANDS = (
-    batch_command("words", "print a batch in words", WORDS, lambda asked: as_words(batch_of(asked))),
-    batch_command("hex", "print a batch as commented hex", HEX, lambda asked: as_hex(batch_of(asked))),
-    batch_command("bytes", "write the bytes of a batch", BYTES, as_bytes),
+    batch_command("words", "print a batch in words", ABOUT_WORDS, lambda asked: as_words(batch_of(asked))),
+    batch_command("hex", "print a batch as commented hex", ABOUT_HEX, lambda asked: as_hex(batch_of(asked))),
+    batch_command("bytes", "write the bytes of a batch", ABOUT_BYTES, as_bytes),
 )
