@@ -10,7 +10,7 @@ from .terminal import shortened
 from .vocabulary import REGISTER_NUMBERS
 
 BYTE, COUNT, LEVEL = 255, 65535, 1  # the greatest values
-MOST_DIGITS = 8  # that any number in range has
+MOST_DIGITS = 8  # more than any number in range has
 SEPARATOR = ";"
 SHAPE_OF_BYTES = "bytes 0a 01 02 03"
 BITS = "V0 V1 V2 F0 to F6 P R0 R1 M0 M1 TY"

@@ -106,7 +106,10 @@ class Ends(unittest.TestCase):
                 self.assertEqual(file.read(), b"strike\n")
 
     def test_bytes_are_not_for_a_terminal(self):
-        leader, terminal = pty.openpty()
+        try:
+            leader, terminal = pty.openpty()
+        except OSError as problem:
+            self.skipTest(f"there is no terminal to be had here: {problem}")
         done = subprocess.run([sys.executable, TOP / "vorstelpijp", "bytes", "--as", "hex", "-"], input=b"04000000", stdout=terminal, stderr=subprocess.PIPE)
         os.close(terminal)
         os.close(leader)
