@@ -34,7 +34,7 @@ def see_a_file(name):
 def see_another_output(name, file):
     """Sees that standard output does not go to the file itself, which would then be empty or grow."""
     with contextlib.suppress(OSError):
-        if os.path.sameopenfile(file.fileno(), 1):
+        if file.fileno() != 1 and os.path.sameopenfile(file.fileno(), 1):  # where standard output is closed, the file has its number
             raise BadInput(f"{name}: standard output goes to this very file, so that the shell has emptied it or would add to it; "
                            "expected another file behind '>'")
 

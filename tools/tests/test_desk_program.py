@@ -105,6 +105,12 @@ class Ends(unittest.TestCase):
             with open(path, "rb") as file:
                 self.assertEqual(file.read(), b"strike\n")
 
+    def test_an_output_that_is_closed(self):
+        words = [sys.executable, TOP / "vorstelpijp", "words", TOP / "examples" / "march.batch"]
+        done = subprocess.run(["sh", "-c", 'exec "$@" >&-', "sh", *words], stderr=subprocess.PIPE)
+        self.assertEqual(done.returncode, 1)
+        self.assertIn(b"standard output cannot be written", done.stderr)
+
     def test_bytes_are_not_for_a_terminal(self):
         try:
             leader, terminal = pty.openpty()
