@@ -1,12 +1,14 @@
 //! A second reading of the bench on paper: a 6545-1 CRT controller beside an
 //! MC6883 synchronous address multiplexer. A batch of four-byte records drives
-//! them, and each record is answered with eight bytes.
+//! them, and each record is answered with eight bytes. A batch of settings has
+//! the frame of each counted.
 //!
 //! Everything is counted the slow way, as the rules read: one character time,
 //! one fetch, one cell after another.
 
 pub mod bench;
 pub mod controller;
+pub mod counts;
 pub mod hex;
 pub mod listing;
 pub mod locator;
@@ -16,9 +18,12 @@ pub mod record;
 pub mod refusal;
 pub mod replay;
 pub mod room;
+pub mod setting;
 
 pub use bench::Bench;
 pub use controller::Controller;
+pub use counts::{report, CountRefusal};
 pub use multiplexer::Multiplexer;
 pub use refusal::Refusal;
 pub use replay::{replay, unread_rest, Ending, Replayed};
+pub use setting::Setting;

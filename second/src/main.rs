@@ -1,11 +1,12 @@
-//! The program: a batch on standard input, its listing or its whole output on
-//! standard output.
+//! The program: a batch on standard input, and on standard output its listing,
+//! its whole output or its counts.
 
 use std::env;
 use std::ffi::OsString;
 use std::io::{self, Read, Write};
 use std::process::ExitCode;
 
+use second::counts::{counts_text, places_text, MOST_COUNTS_INPUT_BYTES, MOST_PLACES_INPUT_BYTES};
 use second::listing::{listing, MOST_INPUT_BYTES};
 use second::mode::{Mode, HELP};
 use second::room::{room_text, MOST_ROOM_INPUT_BYTES};
@@ -34,6 +35,8 @@ fn run(mode: Mode) -> Result<(), String> {
     let text = match mode {
         Mode::Listing => listing(&read(MOST_INPUT_BYTES)?),
         Mode::Room => room_text(&read(MOST_ROOM_INPUT_BYTES)?),
+        Mode::Counts => counts_text(&read(MOST_COUNTS_INPUT_BYTES)?),
+        Mode::Places => places_text(&read(MOST_PLACES_INPUT_BYTES)?),
         Mode::Help => String::from(HELP),
     };
     let mut output = io::stdout().lock();

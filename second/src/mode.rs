@@ -6,19 +6,34 @@ use std::ffi::{OsStr, OsString};
 pub enum Mode {
     Listing,
     Room,
+    Counts,
+    Places,
     Help,
 }
 
 pub const HELP: &str = "\
-second: replays a batch of records on a 6545-1 controller and an MC6883 multiplexer
+second: replays a batch of records on a 6545-1 controller and an MC6883 multiplexer,
+        and counts what the frames of settings do
 
-  second < batch          prints the listing of a batch of at most 4,096 bytes:
-                          a line for each answer, then `end` and the ending number
-  second --room < input   takes the first two bytes as the size of the output (high
-                          byte first, at most 8,192) and the rest as the batch; prints
-                          ending number, bytes taken and answers written as hex, then
-                          the whole output, which holds a5 where nothing was written
-  second --help           prints this text
+  second < batch              prints the listing of a batch of at most 4,096 bytes:
+                              a line for each answer, then `end` and the ending number
+  second --room < input       takes the first two bytes as the size of the output (high
+                              byte first, at most 8,192) and the rest as the batch;
+                              prints ending number, bytes taken and answers written as
+                              hex, then the whole output, which holds a5 where nothing
+                              was written
+  second --counts < settings  prints a line of seven numbers for each of 1 to 64 settings
+                              of sixteen bytes: the character times of its first frame
+                              after reset that are in the picture, with display enable,
+                              cursor, HSYNC and VSYNC high, then the sum of MA lines
+                              changed and the largest single change; then `total` and
+                              the totals; or just `refused 10`
+  second --places < input     takes the first two bytes as the number of places (high
+                              byte first, at most 1,024) and the rest as the settings;
+                              prints the refusal number (0, 10 or 11), then every place
+                              as hex, which holds a5a5a5a5a5a5a5a5 where nothing was
+                              written
+  second --help               prints this text
 ";
 
 impl Mode {
@@ -30,6 +45,8 @@ impl Mode {
         };
         let mode = match argument.to_str() {
             Some("--room") => Mode::Room,
+            Some("--counts") => Mode::Counts,
+            Some("--places") => Mode::Places,
             Some("--help") => Mode::Help,
             _ => return Err(unexpected("unknown", argument)),
         };

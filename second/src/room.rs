@@ -15,6 +15,9 @@ pub const MOST_ROOM_INPUT_BYTES: usize = ROOM_FIELD_BYTES + MOST_INPUT_BYTES;
 /// As much as the longest batch can fill; a greater room counts as this one.
 const MOST_ROOM: usize = 8_192;
 
+/// All that is printed for an input that does not name its room.
+pub const NO_ROOM: &str = "no room\n";
+
 /// What the output holds before the replay, so that writing past the answers shows.
 const UNTOUCHED: u8 = 0xA5;
 
@@ -25,7 +28,7 @@ pub fn room_text(input: &[u8]) -> String {
         return String::from(TOO_LONG);
     }
     let Some((field, batch)) = input.split_first_chunk::<ROOM_FIELD_BYTES>() else {
-        return String::from("no room\n");
+        return String::from(NO_ROOM);
     };
     let room = usize::from(u16::from_be_bytes(*field)).min(MOST_ROOM);
     let mut output = vec![UNTOUCHED; room];

@@ -1,6 +1,7 @@
 pub mod Alike
 pub mod Cases
 pub mod Counting
+pub mod Filling
 pub mod Iterating
 pub mod Laying
 pub mod Parts

@@ -5,8 +5,11 @@ use mathlib.Core.Bool.{Bool}
 use Rattle.basics.specs.Iterate.{iterate}
 use Rattle.basics.proofs.Iterating.{iterate-keeps}
 use Rattle.raster.specs.Scan.{topOf, nextOf}
+use Rattle.raster.specs.Sync.{arriveOf}
+use Rattle.raster.proofs.Syncs.{arrive-held}
 use Rattle.raster.specs.declared.registers.Registers.{Registers}
-use Rattle.controller.specs.Chip.{arrivedOf, resetOf, writeOf, stepOf, clockOf, strikeOf}
+use Rattle.raster.specs.declared.scan.Scan.{Scan}
+use Rattle.controller.specs.Chip.{noSync, arrivedOf, resetOf, writeOf, stepOf, clockOf, strikeOf}
 use Rattle.pen.specs.Pen.{noPen, struckOf}
 use Rattle.controller.specs.Chip.{strikeAt}
 use Rattle.controller.specs.Reads.{readOf}
@@ -75,3 +78,33 @@ module _ (c : Controller) where
   pub reset-pen : resetOf c .pen ≡ noPen
   unfolding resetOf arrivedOf
   reset-pen = refl
+
+-- a reset is an arrival with the registers that it keeps
+pub reset-arrived : (c : Controller) → resetOf c ≡ arrivedOf (c .regs)
+unfolding resetOf
+reset-arrived c = refl
+
+pub arrived-regs : (r : Registers) → arrivedOf r .regs ≡ r
+unfolding arrivedOf
+arrived-regs r = refl
+
+-- which goes by what they hold, and not by the one that is named
+module _ (r q : Registers) (e : r .held ≡ q .held) where
+  top-alike : topOf r 0 ≡ topOf q 0
+  top-alike = rw e
+
+  pub arrived-scan : arrivedOf r .scan ≡ arrivedOf q .scan
+  unfolding arrivedOf
+  arrived-scan = top-alike
+
+  pub arrived-sync : arrivedOf r .sync ≡ arrivedOf q .sync
+  unfolding arrivedOf
+  arrived-sync = arrive-held r q e (topOf r 0) noSync ∙ ap (λ (s : Scan). arriveOf q s noSync) top-alike
+
+  pub arrived-left : arrivedOf r .left ≡ arrivedOf q .left
+  unfolding arrivedOf
+  arrived-left = refl
+
+  pub arrived-pen : arrivedOf r .pen ≡ arrivedOf q .pen
+  unfolding arrivedOf
+  arrived-pen = refl

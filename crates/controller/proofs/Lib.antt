@@ -3,3 +3,4 @@ pub mod Reading
 pub mod Keeping
 pub mod Widths
 pub mod Times
+pub mod Writing

@@ -7,5 +7,6 @@ mod writes;
 
 pub use chip::Controller;
 pub use pins::Outputs;
+pub use pins::pin;
 pub use reads::Reading;
 pub use writes::kept;

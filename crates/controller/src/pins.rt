@@ -14,7 +14,8 @@ pub struct Outputs {
     pub vsync: bool,
 }
 
-fn pin(delayed: bool, left: bool, here: bool) -> bool
+// A pin that can come late: the fact of this character, or, where it is delayed, of the character left.
+pub fn pin(delayed: bool, left: bool, here: bool) -> bool
     ensures { λ r. ⌜ r ≡ pinOf delayed left here ⌝ }
 {
     if delayed { left } else { here }

@@ -51,6 +51,11 @@ impl Registers {
         self.held.get(number).copied()
     }
 
+    /// What R0 to R15 hold, in this order.
+    pub fn all_held(&self) -> [u8; REGISTERS] {
+        self.held
+    }
+
     /// R0: the last column of a line.
     pub fn last_column(&self) -> u8 {
         self.held[0]

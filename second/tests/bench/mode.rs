@@ -13,12 +13,24 @@ fn asked_for(arguments: &[&str]) -> Result<Mode, String> {
 fn each_mode_by_its_argument() {
     assert_eq!(asked_for(&[]), Ok(Mode::Listing));
     assert_eq!(asked_for(&["--room"]), Ok(Mode::Room));
+    assert_eq!(asked_for(&["--counts"]), Ok(Mode::Counts));
+    assert_eq!(asked_for(&["--places"]), Ok(Mode::Places));
     assert_eq!(asked_for(&["--help"]), Ok(Mode::Help));
 }
 
 #[test]
 fn any_other_argument_is_named_in_the_message() {
-    for unknown in ["", "--rooms", "--ROOM", "room", "-h", "batch.bin"] {
+    for unknown in [
+        "",
+        "--rooms",
+        "--ROOM",
+        "room",
+        "-h",
+        "batch.bin",
+        "--count",
+        "counts",
+        "--place",
+    ] {
         let message = asked_for(&[unknown]).expect_err("it is refused");
         assert!(message.starts_with(&format!("unknown argument `{unknown}` ")));
     }

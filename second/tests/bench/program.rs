@@ -23,7 +23,7 @@ fn run(arguments: &[&str], input: &[u8]) -> Output {
     child.wait_with_output().expect("the program ends")
 }
 
-fn prints_with(arguments: &[&str], input: &[u8], expected: &str) {
+pub fn prints_with(arguments: &[&str], input: &[u8], expected: &str) {
     let output = run(arguments, input);
     assert_eq!(String::from_utf8_lossy(&output.stdout), expected);
     assert_eq!(String::from_utf8_lossy(&output.stderr), "");
@@ -150,17 +150,27 @@ fn the_program_leaves_the_last_record_of_4096_bytes_when_it_is_broken_or_has_no_
 }
 
 #[test]
-fn the_program_tells_of_both_modes() {
+fn the_program_tells_of_every_mode() {
     prints_with(&["--help"], &[], HELP);
-    assert!(HELP.contains("  second < batch ") && HELP.contains("  second --room < input "));
+    for call in [
+        "second < batch",
+        "second --room < input",
+        "second --counts < settings",
+        "second --places < input",
+        "second --help",
+    ] {
+        assert!(HELP.contains(&format!("\n  {call} ")), "{call}");
+    }
 }
 
 #[test]
 fn the_program_refuses_arguments_it_does_not_know() {
-    let refused: [(&[&str], &str); 3] = [
+    let refused: [(&[&str], &str); 5] = [
         (&["--rooms"], "second: unknown argument `--rooms`"),
         (&["batch.bin"], "second: unknown argument `batch.bin`"),
         (&["--room", "8"], "second: superfluous argument `8`"),
+        (&["--count"], "second: unknown argument `--count`"),
+        (&["--places", "8"], "second: superfluous argument `8`"),
     ];
     for (arguments, message) in refused {
         let output = run(arguments, &[4, 0, 0, 0]);

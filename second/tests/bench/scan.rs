@@ -1,6 +1,6 @@
 //! The counters, the addresses they make, and the picture.
 
-use crate::trial::{Trial, CURSOR, DISPLAY_ENABLE, PICTURE, SETTING_A, VSYNC};
+use crate::trial::{Trial, DISPLAY_ENABLE, PICTURE, SETTING_A, SETTING_A_TIMES, VSYNC};
 
 const SHOWN: u8 = PICTURE | DISPLAY_ENABLE;
 
@@ -9,20 +9,9 @@ const LONG: [(u8, u8); 5] = [(0, 255), (1, 100), (4, 127), (6, 127), (9, 31)];
 
 #[test]
 fn three_frames_of_setting_a_character_by_character() {
-    // Memory address, line and flags of each of the 20 character times.
-    let on = SHOWN | VSYNC;
-    let off = VSYNC;
-    #[rustfmt::skip]
-    let frame = [
-        (0, 0, on | CURSOR), (1, 0, on), (2, 0, off), (3, 0, off),
-        (0, 1, on), (1, 1, on), (2, 1, off), (3, 1, off),
-        (2, 0, on), (3, 0, on), (4, 0, off), (5, 0, off),
-        (2, 1, on), (3, 1, on), (4, 1, off), (5, 1, off),
-        (4, 0, off), (5, 0, off), (6, 0, off), (7, 0, off),
-    ];
     let mut trial = Trial::with(&SETTING_A);
     for number in 0..3 {
-        for (time, expected) in frame.iter().enumerate() {
+        for (time, expected) in SETTING_A_TIMES.iter().enumerate() {
             let seen = trial.now();
             assert_eq!(
                 (seen.ma, seen.ra, seen.flags),

@@ -11,6 +11,21 @@ pub const VSYNC: u8 = 16;
 /// Setting A of the settled cases.
 pub const SETTING_A: [(u8, u8); 6] = [(0, 3), (1, 2), (4, 1), (5, 1), (6, 2), (9, 1)];
 
+/// The frame of setting A: memory address, line and flags of each of its 20
+/// character times.
+#[rustfmt::skip]
+pub const SETTING_A_TIMES: [(u16, u8, u8); 20] = {
+    const OFF: u8 = VSYNC;
+    const ON: u8 = PICTURE | DISPLAY_ENABLE | VSYNC;
+    [
+        (0, 0, ON | CURSOR), (1, 0, ON), (2, 0, OFF), (3, 0, OFF),
+        (0, 1, ON), (1, 1, ON), (2, 1, OFF), (3, 1, OFF),
+        (2, 0, ON), (3, 0, ON), (4, 0, OFF), (5, 0, OFF),
+        (2, 1, ON), (3, 1, ON), (4, 1, OFF), (5, 1, OFF),
+        (4, 0, OFF), (5, 0, OFF), (6, 0, OFF), (7, 0, OFF),
+    ]
+};
+
 /// The answer to character clocks.
 #[derive(Clone, Copy, PartialEq, Eq, Debug)]
 pub struct Character {
