@@ -7,6 +7,7 @@
 
 typedef unsigned char u8;
 typedef unsigned short u16;
+typedef unsigned long long u64;
 
 struct registers { u8 held[16], named; };
 struct scan { u8 column, line, row; u16 base, start; u8 field; _Bool adjusting; };
@@ -39,5 +40,8 @@ struct controller controller_strike(struct controller c);
 struct strike controller_newest(struct controller c);
 struct found controller_locate(struct controller c);
 struct display display_fetches(u16 bits, struct display from, u16 n);
+
+/* A row of seven places for each setting of sixteen bytes, and one of totals; a lent part is its first place and how many there are. */
+u8 settings_report(const u8 *settings, unsigned long settings_count, u64 *places, unsigned long places_count);
 
 #endif

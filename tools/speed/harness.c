@@ -15,6 +15,7 @@ struct mode { u8 x, y; };
 void rust_clock(struct place *at, const u8 held[16], unsigned n);
 void rust_locate(struct found *out, const u8 held[16], unsigned latch);
 void rust_fetches(struct display *at, const struct mode *mode, unsigned n);
+void rust_report(u64 places[], const u8 settings[], unsigned n);
 
 /* The calls of the C library that are used; no header, so that any C compiler for x86-64 will do. */
 struct moment { long seconds, nanoseconds; };
@@ -33,6 +34,9 @@ static struct found cells[SIDES];
 static struct display counters[SIDES];
 static u16 control_bits;
 static struct mode mode;
+enum { HELD = 16, BATCH = 64, ROW = 7, PLACES = ROW * (BATCH + 1) };
+static u8 batch[BATCH * HELD];
+static u64 reports[SIDES][PLACES];
 
 static void proved_clock(unsigned n)
 {
@@ -48,10 +52,14 @@ static void locate_rust(void) { rust_locate(&cells[RUST], held, controller_newes
 static void fetch_proved(void) { counters[PROVED] = display_fetches(control_bits, counters[PROVED], CALL); }
 static void fetch_rust(void) { rust_fetches(&counters[RUST], &mode, CALL); }
 
+static void report_proved(void) { settings_report(batch, sizeof batch, reports[PROVED], PLACES); }
+static void report_rust(void) { rust_report(reports[RUST], batch, BATCH); }
+
 typedef void (*work)(void);
 static const work clocks[SIDES] = {clock_proved, clock_rust};
 static const work locates[SIDES] = {locate_proved, locate_rust};
 static const work fetches[SIDES] = {fetch_proved, fetch_rust};
+static const work counts[SIDES] = {report_proved, report_rust};
 
 static double time_of(work call, long calls)
 {
@@ -175,6 +183,23 @@ static int compare_fetches(const char *row, u16 bits, struct mode limits)
     return 0;
 }
 
+static void fill_batch(const u8 setting[HELD])
+{
+    for (int at = 0; at < BATCH * HELD; at++)
+        batch[at] = setting[at % HELD];
+}
+
+static int compare_reports(const char *row, const u8 setting[HELD])
+{
+    fill_batch(setting);
+    report_proved();
+    report_rust();
+    for (int at = 0; at < PLACES; at++)
+        if (differs(row, at, reports[PROVED][at] == reports[RUST][at]))
+            return 1;
+    return 0;
+}
+
 /* R0 to R15 of each setting. The last three are compared and not timed: adjust lines, and frames that miss their ends. */
 static const struct setting { const char *row; u8 held[16]; } settings[] = {
     {"clock-63", {63, 40, 50, 0x28, 38, 0, 25, 30, 0, 7}},
@@ -186,6 +211,13 @@ static const struct setting { const char *row; u8 held[16]; } settings[] = {
     {"adjusting short", {2, 200, 1, 0xf1, 126, 3, 127, 5, 4, 31, 0, 0, 1, 2}},
 };
 enum { TIMED = 4, SETTINGS = sizeof settings / sizeof settings[0] };
+
+/* Frames that are counted, with the character times of a whole report: the largest one, and a text screen. */
+static const struct { const char *row; u8 held[HELD]; double times; } frames[] = {
+    {"count-largest", {255, 255, 100, 0xff, 127, 31, 127, 100, 48, 31, 0, 31, 0, 0, 1, 1}, 64 * 1056512.0},
+    {"count-screen", {63, 40, 50, 0x28, 31, 6, 25, 28, 0, 7, 0x66, 7, 0, 0, 1, 1}, 64 * 16768.0},
+};
+enum { COUNTED = sizeof frames / sizeof frames[0] };
 
 /* The largest picture. Its addresses go round almost twice: the first strike has a cell of its own, the second shares its address. */
 static const u8 largest[16] = {255, 255, 0, 0, 127, 0, 127};
@@ -212,5 +244,13 @@ int main(void)
     if (compare_fetches("fetch-001", 1, mode_001))
         return 1;
     measure("fetch-001", fetches, CALL);
+    for (int k = 0; k < SETTINGS; k++)
+        if (compare_reports(settings[k].row, settings[k].held))
+            return 1;
+    for (int k = 0; k < COUNTED; k++) {
+        if (compare_reports(frames[k].row, frames[k].held))
+            return 1;
+        measure(frames[k].row, counts, frames[k].times);
+    }
     return 0;
 }

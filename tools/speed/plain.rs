@@ -195,3 +195,85 @@ pub extern "C" fn rust_fetches(at: &mut Counted, mode: &Mode, n: u32) {
     }
     *at = d;
 }
+
+/// The facts that a delayed pin shows one character late.
+#[derive(Clone, Copy)]
+struct Facts {
+    picture: bool,
+    cursor: bool,
+}
+
+fn address(r: &Registers, s: &Scan) -> u16 {
+    if r[8] / 4 % 2 == 1 {
+        return 256 * ((s.start / 256 + u16::from(s.row)) % 64) + (s.start % 256 + u16::from(s.column)) % 256;
+    }
+    (s.base + u16::from(s.column)) % 16384
+}
+
+fn blink_allows(r: &Registers, s: &Scan) -> bool {
+    match r[10] / 32 % 4 {
+        0 => true,
+        1 => false,
+        2 => s.field / 8 % 2 == 0,
+        _ => s.field / 16 % 2 == 0,
+    }
+}
+
+fn facts(r: &Registers, s: &Scan) -> Facts {
+    let picture = !s.adjusting && s.row < r[6] && s.column < r[1];
+    let at_cursor = address(r, s) == 256 * u16::from(r[14]) + u16::from(r[15]);
+    let on_line = r[10] % 32 <= s.line && s.line <= r[11];
+    Facts { picture, cursor: picture && at_cursor && on_line && blink_allows(r, s) }
+}
+
+/// The place at the first character after a reset.
+fn reset(r: &Registers) -> Place {
+    let start = 256 * u16::from(r[12]) + u16::from(r[13]);
+    let scan = Scan { column: 0, line: 0, row: 0, base: start, start, field: 0, adjusting: false };
+    let mut place = Place { scan, sync: Sync { hsync: 0, vsync: 0 } };
+    place.sync.arrive(&scan, r);
+    place
+}
+
+const MASKS: Registers = [255, 255, 255, 255, 127, 31, 127, 127, 255, 31, 127, 31, 63, 255, 63, 255];
+
+/// The seven numbers of a setting's first frame.
+fn counted(r: &Registers) -> [u64; 7] {
+    let lines = (u32::from(r[4]) + 1) * (u32::from(r[9]) + 1) + u32::from(r[5]);
+    let (display_late, cursor_late) = (r[8] / 16 % 2 == 1, r[8] / 32 % 2 == 1);
+    let mut place = reset(r);
+    let mut left = Facts { picture: false, cursor: false };
+    let mut sums = [0; 7];
+    for _ in 0..(u32::from(r[0]) + 1) * lines {
+        let (here, from) = (facts(r, &place.scan), address(r, &place.scan));
+        sums[0] += u64::from(here.picture);
+        sums[1] += u64::from(if display_late { left.picture } else { here.picture });
+        sums[2] += u64::from(if cursor_late { left.cursor } else { here.cursor });
+        sums[3] += u64::from(place.sync.hsync > 0);
+        sums[4] += u64::from(place.sync.vsync > 0);
+        left = here;
+        place.step(r);
+        let changed = u64::from((from ^ address(r, &place.scan)).count_ones());
+        sums[5] += changed;
+        sums[6] = sums[6].max(changed);
+    }
+    sums
+}
+
+/// The report on so many settings: a row for each, and the totals.
+#[no_mangle]
+pub extern "C" fn rust_report(out: &mut [[u64; 7]; 65], settings: &[Registers; 64], n: u32) {
+    let mut totals = [0; 7];
+    for (row, setting) in out.iter_mut().zip(settings).take(n as usize) {
+        let mut r = *setting;
+        for (held, mask) in r.iter_mut().zip(MASKS) {
+            *held &= mask;
+        }
+        *row = counted(&r);
+        for (total, number) in totals.iter_mut().zip(*row).take(6) {
+            *total += number;
+        }
+        totals[6] = totals[6].max(row[6]);
+    }
+    out[(n as usize).min(64)] = totals;
+}

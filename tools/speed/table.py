@@ -10,6 +10,8 @@ ROWS = [
     ("locate", "locating a strike in the largest picture (2)"),
     ("fetch-000", "a display fetch, mode 000"),
     ("fetch-001", "a display fetch, mode 001"),
+    ("count-largest", "a character time counted, largest frame (4)"),
+    ("count-screen", "a character time counted, text screen (5)"),
 ]
 WHOLE = "whole listing program, a character time (3)"
 FORM = "{:<46}{:>12}{:>12}{:>14}"
@@ -64,6 +66,8 @@ def notes(made):
         "(1) R1 40, R2 50, R3 28 hex, R4 38, R6 25, R7 30, R9 7, others 0",
         "(2) R0 255, R1 255, R4 127, R6 127, others 0; the Rust side looks at all 127 x 255 cells",
         f"(3) a batch of {RECORDS:,} records of {CLOCKS:,} clocks, all registers 0; beside it, as Rust, the second program",
+        "(4) a report of 64 settings of the largest frame, 67,616,768 character times",
+        "(5) a report of 64 settings of 40 columns and 25 rows, R0 63",
     ]
 
 

@@ -1,11 +1,13 @@
 // The calls that programs in other languages link, each by value and over plain data: the controller's, the locator's answer as numbers,
-// and the display counter. include/vorstelpijp.h declares them for C.
+// the display counter, and the report on a batch of settings. include/vorstelpijp.h declares them for C.
 ghost use mathlib.Core.Path.{_≡_};
+ghost use lib.ListN.{length};
 ghost use Rattle.controller.specs.Chip.{freshOf, resetOf, writeOf, clockOf, strikeOf};
 ghost use Rattle.controller.specs.Pins.{outputsOf};
 ghost use Rattle.controller.specs.Reads.{readOf};
 ghost use Rattle.locator.specs.Locate.{locateOf};
 ghost use Rattle.pen.specs.Pen.{newestOf};
+ghost use Rattle.report.specs.Report.{refusalOf, reportedOf};
 ghost use Rattle.exports.specs.Plain.{foundOf, fetchedOf};
 use control::Control;
 use controller::Controller;
@@ -110,4 +112,14 @@ pub extern "C" fn display_fetches(bits: u16, from: Display, n: u16) -> Display
     m.control = control;
     m.display = from;
     m.fetches(n).display
+}
+
+// The report on a batch of settings, into places of 64 bits: 0, or the number of the refusal.
+#[no_mangle]
+pub extern "C" fn settings_report(settings: &[u8], places: &mut [u64]) -> u8
+    ensures said { λ r. ⌜ r ≡ refusalOf (now (settings .entry)) (length (now (places .entry))) ⌝ }
+    ensures laid { λ r. ⌜ now (places .exit) ≡ reportedOf (now (settings .entry)) (now (places .entry)) ⌝ }
+    ensures kept { λ r. ⌜ now (settings .exit) ≡ now (settings .entry) ⌝ }
+{
+    report::report(settings, places)
 }

@@ -1,20 +1,31 @@
 -- A turn of the pass is a character time of the controller with what is shown at it counted in; and how large the numbers can get.
 -- Assumes nothing.
-use Prim.Native.Nat.{ℕ, zero, suc, _+_, _*_, _<_, _≤_, max}
+use Prim.Native.Nat.{ℕ, zero, suc, _+_, _-_, _*_, _%_, _<_, _≤_, max}
 use mathlib.Core.Path.{_≡_, refl, ap, sym, _∙_}
 use mathlib.Core.Bool.{Bool}
 use mathlib.Core.List.{List, map, map-append}
+use native.Mathlib.Nat.{max-le}
 use native.Mathlib.Numerals.{add-one}
 use native.Mathlib.Omega.{arith}
 use lib.Bits.{xor-lt}
+use lib.Dec.{ltb}
 use lib.Count.{ones-le}
 use lib.ListN.{length}
 use Rattle.basics.specs.Bits.{num}
 use Rattle.basics.specs.Count.{count}
 use Rattle.basics.specs.Iterate.{iterate}
-use Rattle.basics.proofs.Counting.{each-last, length-each, length-count}
+use Rattle.basics.proofs.Counting.{each-last}
+use Rattle.basics.proofs.Iterating.{iterate-add}
 use Rattle.basics.proofs.Words.{num-lt}
+use Rattle.raster.specs.Registers.{reg}
+use Rattle.raster.specs.Scan.{nextOf}
+use Rattle.raster.specs.Sync.{arriveOf}
 use Rattle.raster.specs.declared.registers.Registers.{Registers}
+use Rattle.raster.specs.declared.scan.Scan.{Scan}
+use Rattle.raster.specs.declared.sync.Sync.{Sync}
+use Rattle.raster.proofs.LineEnds.{next-along}
+use Rattle.raster.proofs.Syncs.{vsync-stays, syncs, arrives}
+use Rattle.facts.specs.Facts.{factsOf}
 use Rattle.facts.proofs.Addresses.{ma-lt}
 use Rattle.facts.proofs.Parts.{picture-fact, cursor-fact}
 use Rattle.controller.specs.Chip.{stepOf, clockOf}
@@ -28,7 +39,7 @@ use Rattle.tally.specs.Tally.{shownOf, timesOf, howMany, changedOf, chan
 use Rattle.tally.specs.private.Pass.{withOf, pinsOf, passOf, turnOf}
 use Rattle.tally.specs.declared.tally.Tally.{Tally}
 use Rattle.tally.specs.declared.pass.Pass.{Pass}
-use Rattle.tally.proofs.Summing.{sum-last, greatest-last, sum-most, greatest-most}
+use Rattle.tally.proofs.Summing.{sum-last, greatest-last}
 
 -- one character time counted in, by what is shown at it and the address behind it
 abbrev counted : Tally → Outputs → ℕ → Tally
@@ -77,29 +88,75 @@ module _ (c : Controller) where
   pub passed-tally : (t : ℕ) (p q : Pass) → p ≡ passOf c noTally → q ≡ iterate (turnOf (c .regs)) t p → q .tally ≡ talliedOf c t
   passed-tally t p q b e = ap (λ (x : Pass). x .tally) (e ∙ ap (iterate (turnOf (c .regs)) t) b ∙ passed t)
 
-  -- a change has at most the fourteen lines of MA, and a pin counts once
-  shown-lt : (t : ℕ) → shownOf c t .ma < 16384
-  unfolding shownOf
-  shown-lt t = rw (shown-ma (clockOf t c)) (ma-lt (clockOf t c .regs) (clockOf t c .scan))
+-- what is at most m is at most n
+pub most-more : (m n : ℕ) (k : Tally) → m ≤ n → AtMost m k → AtMost n k
+most-more m n k h x = record {
+  picture = omega (arith, x .picture);
+  display = omega (arith, x .display);
+  cursor = omega (arith, x .cursor);
+  hsync = omega (arith, x .hsync);
+  vsync = omega (arith, x .vsync);
+  changed = omega (arith, x .changed);
+  most = omega (arith, x .most);
+}
 
-  change-most : (t : ℕ) → changeOf c t ≤ 14
-  unfolding changeOf
-  change-most t = ones-le 14 _ (xor-lt 14 _ _ (shown-lt t) (shown-lt (suc t)))
+module _ (r : Registers) where
+  -- how large the numbers get: a change has at most the fourteen lines of MA, and a pin counts once
+  turn-most : (m : ℕ) (p : Pass) → AtMost m (p .tally) → AtMost (m + 14) (turnOf r p .tally)
+  unfolding turnOf withOf
+  turn-most m p a =
+      let lines = ones-le 14 _ (xor-lt 14 _ _ (ma-lt r (p .scan)) (ma-lt r (nextOf r (p .scan)))) in
+      let late = pinsOf r (p .left) (factsOf r (p .scan)) in
+      record {
+        picture = omega (arith, a .picture, num-lt (factsOf r (p .scan) .picture));
+        display = omega (arith, a .display, num-lt (late .picture));
+        cursor = omega (arith, a .cursor, num-lt (late .cursor));
+        hsync = omega (arith, a .hsync, num-lt (ltb 0 (p .sync .hsync)));
+        vsync = omega (arith, a .vsync, num-lt (ltb 0 (p .sync .vsync)));
+        changed = omega (arith, a .changed, lines);
+        most = max-le (omega (arith, a .most)) (omega (arith, lines));
+      }
 
-  times-most : (shows : Outputs → Bool) (t n : ℕ) → t * 14 ≤ n → howMany shows (timesOf c t) ≤ n
-  times-most shows t n h =
-      let q = sum-most (λ (o : Outputs). num (shows o)) 14 (λ o. omega (arith, num-lt (shows o))) (timesOf c t) in
-      omega (arith, rw (length-each (shownOf c) t) at q)
+  pub turns-most : (m : ℕ) (p : Pass) → AtMost m (p .tally) → (n : ℕ) → AtMost (m + n * 14) (iterate (turnOf r) n p .tally)
+  unfolding iterate
+  turns-most m p a zero = most-more m (m + 0 * 14) (p .tally) (omega arith) a
+  turns-most m p a (suc n) =
+      most-more (m + n * 14 + 14) (m + suc n * 14) _ (omega arith) (turn-most (m + n * 14) (iterate (turnOf r) n p) (turns-most m p a n))
 
-  -- so t character times count up to 14 t at the most
-  pub tallied-most : (t n : ℕ) → t * 14 ≤ n → 14 ≤ n → AtMost n (talliedOf c t)
-  unfolding talliedOf
-  tallied-most t n h k = record {
-    picture = times-most (λ o. o .picture) t n h;
-    display = times-most (λ o. o .display) t n h;
-    cursor = times-most (λ o. o .cursor) t n h;
-    hsync = times-most (λ o. o .hsync) t n h;
-    vsync = times-most (λ o. o .vsync) t n h;
-    changed = omega (arith, rw (length-count 0 t) at (sum-most (changeOf c) 14 change-most (count 0 t)));
-    most = omega (arith, greatest-most (changeOf c) 14 change-most (count 0 t));
-  }
+  -- from nothing counted on, fourteen for each
+  pub passed-most : (t : ℕ) (p q : Pass) → p .tally ≡ noTally → q ≡ iterate (turnOf r) t p → AtMost (t * 14) (q .tally)
+  passed-most t p q b e =
+      let none : AtMost 0 noTally = record { picture = omega arith; display = omega arith; cursor = omega arith; hsync = omega arith; vsync = omega arith; changed = omega arith; most = omega arith } in
+      rw e (most-more (0 + t * 14) (t * 14) _ (omega arith) (turns-most 0 p (rw b none) t))
+
+  -- t turns, k more and another one
+  pub turns-more : (t k : ℕ) (p p′ q s : Pass) → p′ ≡ iterate (turnOf r) t p → q ≡ iterate (turnOf r) k p′ → s ≡ turnOf r q → s ≡ iterate (turnOf r) (t + (k + 1)) p
+  unfolding iterate
+  turns-more t k p p′ q s ep eq es =
+      let e : t + (k + 1) ≡ suc k + t = omega arith in
+      rw (e, iterate-add) (es ∙ ap (turnOf r) (eq ∙ ap (iterate (turnOf r) k) ep))
+
+  -- within a line the scan goes to the next column, and changes in nothing else
+  pub along-next : (s : Scan) → (s .column ≡ reg r 0 → ⊥) → s .column < 255
+      → nextOf r s ≡ record { column = s .column + 1; line = s .line; row = s .row; base = s .base; start = s .start; field = s .field; adjusting = s .adjusting }
+  along-next s n l = let e : (s .column + 1) % 256 ≡ s .column + 1 = omega arith in rw (← e) (next-along r s n)
+
+  -- where VSYNC stays as it was
+  pub along-sync : (s : Scan) (y z : Sync) → (s .column ≡ 0 → ⊥) → z ≡ arriveOf r s y → arriveOf r s y ≡ record { hsync = z .hsync; vsync = y .vsync }
+  along-sync s y z n e =
+      let both = arrives r s y refl (vsync-stays r s (y .vsync) n) in
+      both ∙ ap (λ (h : ℕ). syncs h (y .vsync)) (sym (ap (λ (x : Sync). x .hsync) (e ∙ both)))
+
+  -- so a turn goes one column along,
+  turn-along : (p : Pass) → (p .scan .column ≡ reg r 0 → ⊥) → turnOf r p .scan .column ≡ (p .scan .column + 1) % 256
+  unfolding turnOf
+  turn-along p n = ap (λ (s : Scan). s .column) (next-along r (p .scan) n)
+
+  -- and n turns n columns
+  pub turns-along : (p : Pass) (n : ℕ) → n ≤ reg r 0 - p .scan .column → p .scan .column + n < 256 → iterate (turnOf r) n p .scan .column ≡ p .scan .column + n
+  unfolding iterate
+  turns-along p zero h w = omega arith
+  turns-along p (suc n) h w =
+      let q = iterate (turnOf r) n p in
+      let before : q .scan .column ≡ p .scan .column + n = turns-along p n (omega arith) (omega arith) in
+      turn-along q (λ e. omega arith) ∙ omega arith

@@ -1,10 +1,9 @@
 -- Laws of sums and of the greatest. Assumes nothing.
-use Prim.Native.Nat.{ℕ, _+_, _*_, _≤_, max}
+use Prim.Native.Nat.{ℕ, _+_, max}
 use mathlib.Core.Path.{_≡_, ap, sym, _∙_}
-use mathlib.Core.List.{List, [], _∷_, _++_, map}
-use native.Mathlib.Nat.{max-le, add-assoc, suc-mul}
+use mathlib.Core.List.{List, [], _∷_, _++_}
+use native.Mathlib.Nat.{add-assoc}
 use native.Mathlib.Omega.{arith}
-use lib.ListN.{length}
 use Rattle.tally.specs.Sums.{sum, greatest}
 
 -- one number more, behind the others
@@ -20,15 +19,3 @@ pub greatest-last : (l : List ℕ) (x : ℕ) → greatest (l ++ (x ∷ [])) ≡ 
 unfolding greatest
 greatest-last [] x = omega arith
 greatest-last (y ∷ l) x = ap (max y) (greatest-last l x) ∙ max-assoc y (greatest l) x
-
--- where no number is above m
-module _ {A : Type 0} (f : A → ℕ) (m : ℕ) (most : (x : A) → f x ≤ m) where
-  pub sum-most : (l : List A) → sum (map f l) ≤ length l * m
-  unfolding sum
-  sum-most [] = omega arith
-  sum-most (x ∷ l) = omega (arith, suc-mul (length l) m, most x, sum-most l)
-
-  pub greatest-most : (l : List A) → greatest (map f l) ≤ m
-  unfolding greatest
-  greatest-most [] = omega arith
-  greatest-most (x ∷ l) = max-le (most x) (greatest-most l)

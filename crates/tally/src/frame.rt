@@ -4,6 +4,7 @@ ghost use Prim.Native.Nat.{_+_, _*_, _≤_};
 ghost use Rattle.frames.specs.Places.{frameTimes};
 ghost use Rattle.tally.specs.Tally.{AtMost, tallyOf};
 use crate::pass::Pass;
+use crate::pass::columns_before;
 use crate::tally::Tally;
 use controller::Controller;
 use raster::Registers;
@@ -33,7 +34,8 @@ fn frame_times(r: Registers) -> u32
     line_times(r.held[0], frame_lines(r.held[4], r.held[9], r.held[5]))
 }
 
-// What the controller does from here on in as many character times as a frame has.
+// What the controller does from here on in as many character times as a frame has. Each turn passes the columns that are left of a line
+// but its last, and then takes one step.
 pub fn count_frame(c: Controller) -> Tally
     ensures is { λ k. ⌜ k ≡ tallyOf c ⌝ }
     ensures most { λ k. ⌜ AtMost 235794944 k ⌝ }
@@ -43,8 +45,9 @@ pub fn count_frame(c: Controller) -> Tally
     let mut p = Pass::begin(c);
     let mut t: u32 = 0;
     while t < n {
-        p = p.turn(r);
-        t += 1;
+        let k = columns_before(p.scan.column, r.held[0], n - t - 1);
+        p = p.columns(r, k).turn(r);
+        t += k + 1;
     }
     p.tally
 }
