@@ -4,10 +4,8 @@ import subprocess
 from typing import NamedTuple
 
 from commands import CannotRun
-from compared.contents import GOOD_BATCH
 from programs import Pair, in_order, problem_of, run_on
 
-LENGTHS = (*range(0, 13), *range(4084, 4101))
 NOT_READ = b"standard input cannot be read\n"
 NOT_WRITTEN = b"standard output cannot be written\n"
 SECONDS_FOR_ONE = 60
@@ -32,19 +30,20 @@ class Run(NamedTuple):
     due: bytes = b""
 
 
-def runs_on_inputs(pairs, lengths):
-    """A run of each pair on each input, the short ones first."""
-    for length in lengths:
-        for pair in pairs:
-            for what, given in pair.program.edge_inputs(length):
-                yield Run(pair, f"{length} bytes, {what}", given)
+def runs_on_inputs(pairs, lengths=None):
+    """A run of each pair on each input at the edges of its program, or on those of these lengths; the short ones first."""
+    runs = [Run(pair, f"{length} bytes, {what}", given)
+            for pair in pairs
+            for length in (pair.program.edge_lengths if lengths is None else lengths)
+            for what, given in pair.program.edge_inputs(length)]
+    return sorted(runs, key=lambda run: len(run.given))
 
 
 def runs_on_broken(pairs):
     """A run of each proved program with each broken input or output."""
     for pair in pairs:
         for words, due in BROKEN:
-            yield Run(pair, words.replace('"$@"', "started with"), GOOD_BATCH, words, due)
+            yield Run(pair, words.replace('"$@"', "started with"), pair.program.good_input, words, due)
 
 
 def done(command, given):
@@ -87,8 +86,8 @@ def fault(run):
     return f"{run.pair.program.name}, {run.what}: {wrong}" if wrong else None
 
 
-def check(pairs, lengths=LENGTHS):
-    """Makes all runs. Gives how many were as due, and the first fault or None."""
+def check(pairs, lengths=None):
+    """Makes all runs, on inputs of these lengths where they are given. Gives how many were as due, and the first fault or None."""
     runs = [*runs_on_broken(pairs), *runs_on_inputs(pairs, lengths)]
     faults = in_order(fault, runs)
     try:

@@ -1,8 +1,9 @@
-"""The examples: batches in words, and beside each what is made of it."""
+"""The examples: batches and settings in words, and beside each what is made of it."""
 from commands import TOP
 
 EXAMPLES = TOP / "examples"
 MADE = ("hex", "listing", "explained")  # from each NAME.batch, by tools/check-desk --write
+MADE_FROM = {"batch": MADE, "settings": ("counts",)}
 
 
 class Disagreement(Exception):
@@ -14,16 +15,20 @@ def file_of(name, ending):
     return EXAMPLES / f"{name}.{ending}"
 
 
-def example_names():
-    """The examples by name. Each has all of its files, and there are no others."""
-    names = sorted(path.stem for path in EXAMPLES.glob("*.batch"))
-    if not names:
+def names_of(source):
+    """The names of the examples in one form of words."""
+    return sorted(path.stem for path in EXAMPLES.glob(f"*.{source}"))
+
+
+def example_names(source="batch"):
+    """The examples in one form of words by name. Every example has all of its files, and there are no others."""
+    if not names_of("batch"):
         raise Disagreement("there are no examples")
-    due = {file_of(name, ending) for name in names for ending in ("batch", *MADE)}
+    due = {file_of(name, ending) for words, made in MADE_FROM.items() for name in names_of(words) for ending in (words, *made)}
     for path in sorted(due ^ set(EXAMPLES.iterdir())):
         why = "is missing" if path in due else "belongs to no example"
         raise Disagreement(f"examples/{path.name} {why}; 'tools/check-desk --write' makes what is made from words")
-    return names
+    return names_of(source)
 
 
 def line_at(lines, at):

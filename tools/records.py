@@ -1,4 +1,4 @@
-"""The nine kinds of record, each by a name, what a batch may hold, and the numbers of refusals and endings."""
+"""The nine kinds of record, each by a name, what a batch of records or of settings may hold, and the numbers of refusals and endings."""
 
 RECORD_BYTES = 4
 MOST_BATCH_BYTES = 4096
@@ -38,6 +38,16 @@ REFUSAL_NAMES = {
     8: "two or more cells of the picture fit the latch",
 }
 ENDINGS = (0, 3, 4)
+# A setting has a byte for each register R0 to R15, and a report on settings a row for each and one of totals.
+SETTING_BYTES = 16
+MOST_SETTINGS = 64
+ROW_NUMBERS = 7
+# The refusals of a whole report; no record has one of them.
+REPORT_REFUSAL_NAMES = {
+    0: "done",
+    10: "the bytes are not 1 to 64 whole settings",
+    11: "fewer places than the report needs",
+}
 # The bits that the narrower registers keep; the others keep all eight.
 KEPT_BITS = {4: 127, 5: 31, 6: 127, 7: 127, 9: 31, 10: 127, 11: 31, 12: 63, 14: 63}
 # The multiplexer's control bits in their order; each has two addresses from CONTROL on.
@@ -138,6 +148,16 @@ def records_of(batch):
 def records_before(place):
     """How many records begin before a place of a batch."""
     return -(-place // RECORD_BYTES)
+
+
+def settings_of(given):
+    """The settings of an input, sixteen bytes each; the last may be shorter."""
+    return [given[at:at + SETTING_BYTES] for at in range(0, len(given), SETTING_BYTES)]
+
+
+def are_settings(given):
+    """Whether an input is as many whole settings as a report takes."""
+    return 1 <= len(given) // SETTING_BYTES <= MOST_SETTINGS and len(given) % SETTING_BYTES == 0
 
 
 def is_allowed(one):

@@ -4,11 +4,12 @@ so that any batch of any run can be made again."""
 import random
 from typing import NamedTuple
 
-from compared import LISTING, ROOMS
+from compared import COUNTS, LISTING, ROOMS
 from compared.program import Program
 from compared.rooms import in_room
 from records import ANSWER_BYTES, GREATEST_FIELDS, MOST_BATCH_BYTES, RECORD_BYTES, counted, joined, record
-from . import controller, corners, multiplexer
+from . import controller, corners, multiplexer, settings
+from .seeds import FIXED_SEED
 
 MOST_ROOM = 8192
 
@@ -192,7 +193,7 @@ def nameless_rooms(rng):
     return any_bytes(rng, rng.randrange(2))
 
 
-# How many of each hundred batches are of each sort, by the program that reads them.
+# How many of each 125 batches are of each sort, by the program that reads them.
 SHARES = {
     LISTING: {
         random_bytes: 4,
@@ -221,6 +222,23 @@ SHARES = {
         over_long_rooms: 1,
         nameless_rooms: 1,
     },
+    COUNTS: {
+        settings.small_frames: 3,
+        settings.middle_frames: 2,
+        settings.late_counts: 2,
+        settings.wrapping_frames: 2,
+        settings.counted_cursors: 2,
+        settings.cursors_outside: 1,
+        settings.long_syncs: 2,
+        settings.beyond_the_frame: 2,
+        settings.wide_bytes: 1,
+        settings.any_settings: 1,
+        settings.alike_bytes: 1,
+        settings.most_settings: 1,
+        settings.no_settings: 1,
+        settings.cut_settings: 2,
+        settings.too_many_settings: 2,
+    },
 }
 
 
@@ -230,7 +248,7 @@ def name_of(sort):
 
 
 def dealt():
-    """The sorts of a hundred batches in order, each sort spread evenly over them and with the program that reads it."""
+    """The sorts of 125 batches in order, each sort spread evenly over them and with the program that reads it."""
     places = []
     for program, shares in SHARES.items():
         for sort, share in shares.items():
@@ -239,11 +257,13 @@ def dealt():
 
 
 DEAL = dealt()
-SORT_NAMES = [name_of(sort) for shares in SHARES.values() for sort in shares]
+# A batch that takes the place of the one with its seed and number. Every whole run has the fixed seed, so it has the largest frame once.
+ONCE = {(FIXED_SEED, 1 + DEAL.index((settings.any_settings, COUNTS))): (settings.largest_frame, COUNTS)}
+SORT_NAMES = [name_of(sort) for sort in (*(sort for shares in SHARES.values() for sort in shares), settings.largest_frame)]
 
 
 def make_batch(seed, number):
     """The batch with this number of the run with this seed; numbers start at 1."""
-    sort, program = DEAL[(number - 1) % len(DEAL)]
+    sort, program = ONCE.get((seed, number)) or DEAL[(number - 1) % len(DEAL)]
     rng = random.Random(f"{seed} {number}")
     return Batch(number, name_of(sort), program, sort(rng))

@@ -39,10 +39,15 @@ def cell_address(setting, row, column):
     return (256 * setting[12] + setting[13] + row * setting[1] + column) % ADDRESSES
 
 
-def put_loosely(rng, register, value):
-    """Writes a register, at times with bits above its width, which it does not keep."""
+def widened(rng, register, value):
+    """A byte for a register, at times with bits above its width, which it does not keep."""
     above = 255 & ~KEPT_BITS.get(register, 255)
-    return put(register, value | above & rng.choice((0, above, rng.randrange(256))))
+    return value | above & rng.choice((0, above, rng.randrange(256)))
+
+
+def put_loosely(rng, register, value):
+    """Writes a register, at times with bits above its width."""
+    return put(register, widened(rng, register, value))
 
 
 def written(rng, setting):

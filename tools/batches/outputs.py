@@ -2,12 +2,14 @@
 
 import collections
 
-from compared import PROGRAMS, NotReadable
-from records import ENDINGS, KIND_NAMES, REFUSAL_NAMES
+from compared import REPLAYS, NotReadable
+from compared.counts import REFUSAL
+from records import ENDINGS, KIND_NAMES, REFUSAL_NAMES, REPORT_REFUSAL_NAMES
 from . import SORT_NAMES
 
 ENOUGH = 10  # times that a whole run has to see each kind and each refusal; any seeds give far more
-LONE_WORDS = tuple(dict.fromkeys(words for program in PROGRAMS for words in program.lone_words))  # each once
+LONE_WORDS = tuple(dict.fromkeys(words for program in REPLAYS for words in program.lone_words))  # each once
+REPORTED = {number: REPORT_REFUSAL_NAMES[number] for number in (0, REFUSAL)}  # how a report on settings can end
 
 
 class Tally:
@@ -20,11 +22,16 @@ class Tally:
         self.refusals = collections.Counter()
         self.endings = collections.Counter()
         self.records = 0
+        self.reports = collections.Counter()
+        self.settings = 0
 
     def add(self, batch, text):
         """Counts one batch and the output that both programs gave for it."""
-        answers, ending = batch.program.read(text)
         self.sorts[batch.sort] += 1
+        batch.program.count(text, self)
+
+    def add_replay(self, answers, ending):
+        """Counts what the output of a replay says."""
         self.endings[ending] += 1
         self.records += len(answers)
         if ending in (3, 4):
@@ -33,12 +40,19 @@ class Tally:
             self.refusals[refusal] += 1
             (self.refused if refusal else self.done)[kind] += 1
 
+    def add_report(self, rows, refusal):
+        """Counts what a report on settings says. It answers no record."""
+        self.reports[refusal] += 1
+        self.settings += len(rows)
+
     def seen_too_seldom(self):
-        """A line for each kind not done, and each refusal not given, often enough for a whole run."""
+        """A line for each kind not done, each refusal not given, and reports not done, often enough for a whole run."""
         lines = [f"kind {kind} ({name}) was done {self.done[kind]} times, fewer than {ENOUGH}"
                  for kind, name in KIND_NAMES.items() if self.done[kind] < ENOUGH]
         lines += [f"refusal {number} ({name}) was given {self.refusals[number]} times, fewer than {ENOUGH}"
                   for number, name in REFUSAL_NAMES.items() if self.refusals[number] < ENOUGH]
+        lines += [f"reports ended with {number} ({name}) {self.reports[number]} times, fewer than {ENOUGH}"
+                  for number, name in REPORTED.items() if self.reports[number] < ENOUGH]
         return lines
 
     def report(self):
@@ -54,6 +68,8 @@ class Tally:
         lines.append("endings:")
         lines += [f"  {self.endings[number]:7} end {number}" for number in ENDINGS]
         lines += [f"  {self.endings[words]:7} {words}" for words in LONE_WORDS]
+        lines += ["settings:", f"  {self.settings:7} in reports", "reports on settings:"]
+        lines += [f"  {self.reports[number]:7} {number} {name}" for number, name in REPORTED.items()]
         return "\n".join(lines)
 
 

@@ -2,9 +2,11 @@
 
 A further one is a module here with one object, which is named in PROGRAMS. The sorts of batches that it reads have their shares
 in tools/batches, under that object."""
+from .counts import COUNTS
 from .listing import LISTING
 from .program import NotReadable
 from .rooms import ROOMS
 
-PROGRAMS = (LISTING, ROOMS)
+REPLAYS = (LISTING, ROOMS)  # of records; what these print has endings
+PROGRAMS = (*REPLAYS, COUNTS)
 NAMES = tuple(program.name for program in PROGRAMS)

@@ -1,12 +1,13 @@
 """The listing: a line for each answer, and one for the ending."""
 import re
 
-from .program import NotReadable, Program, Reading, place_of_record
+from .program import NotReadable
+from .replay import Reading, Replay, place_of_record
 
 LAYOUT = re.compile(r"(?:[0-9a-f]{16}(?: odd)?\n)*end [034]\n")
 
 
-class Listing(Program):
+class Listing(Replay):
     """Reads a batch as it is. The remark behind an answer is no part of it."""
 
     name = "listing"

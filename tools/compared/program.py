@@ -1,30 +1,18 @@
-"""What the comparison has to know of a program: its command, how its input is made up, and how its output is read."""
-from typing import NamedTuple
-
+"""What the comparison has to know of a program: its command, how its input is made up, and how its output is read and counted."""
 from proving import BINARIES
-from records import RECORD_BYTES, records_of
-from .contents import contents
-
-RECORDS_PER_LINE = 8
 
 
 class NotReadable(Exception):
     """An output that is not laid out as the program's outputs are."""
 
 
-class Reading(NamedTuple):
-    """What an output says."""
-
-    answers: list  # eight bytes each
-    ending: object  # a number, or the words that stand alone
-
-
 class Program:
-    """A program under comparison: what most have alike. Each says what it has otherwise, and how its answers are read."""
+    """A program under comparison: what all have alike, and what each has to say of itself."""
 
     name = ""  # of the crate
     second_part = ()  # the words that the second program is started with to do the same
-    lone_words = ()  # what stands alone in an output that has no answers
+    edge_lengths = ()  # of the inputs at the program's edges, in bytes
+    good_input = b""  # one that is taken
 
     @property
     def proved(self):
@@ -35,27 +23,20 @@ class Program:
         """The words that run the second program, built at this path, in the part of this one."""
         return [str(second), *self.second_part]
 
-    def records_in(self, given):
-        """The batch of records that an input holds."""
-        return given
-
     def edge_inputs(self, length):
         """The inputs of one length that the program is tried on, each with words for it."""
-        yield from contents(length)
+        raise NotImplementedError
 
     def told_of_input(self, given):
         """The lines in which a message shows an input."""
-        return ["batch in hex:", grouped(self.records_in(given))]
+        raise NotImplementedError
 
     def read(self, text):
         """What an output says. Raises NotReadable where it is no output of this program."""
-        for words in self.lone_words:
-            if text == f"{words}\n":
-                return Reading([], words)
-        return self.read_answers(text)
+        raise NotImplementedError
 
-    def read_answers(self, text):
-        """What an output with answers says; read does the others."""
+    def count(self, text, tally):
+        """Has a tally count what an output says."""
         raise NotImplementedError
 
     def place_of_line(self, given, line_number):
@@ -67,16 +48,6 @@ class Program:
         return unequal[:1]
 
 
-def grouped(batch):
-    """A batch in hex, a record to a group; the desk program reads it with --as hex."""
-    groups = [one.hex() for one in records_of(batch)]
-    lines = [" ".join(groups[at:at + RECORDS_PER_LINE]) for at in range(0, len(groups), RECORDS_PER_LINE)]
-    return "\n".join(f"  {line}" for line in lines) or "  (no byte)"
-
-
-def place_of_record(batch, at):
-    """Names a record of a batch by its number, from 0, or what comes after them all."""
-    record = batch[RECORD_BYTES * at:RECORD_BYTES * (at + 1)]
-    if len(record) < RECORD_BYTES:
-        return "what follows the last whole record"
-    return f"record {at + 1}, {record.hex()}"
+def set_in(lines):
+    """Lines that show an input, set in; words where there is none."""
+    return [f"  {line}" for line in lines] or ["  (no byte)"]

@@ -2,8 +2,8 @@
 import re
 
 from records import ANSWER_BYTES, ENDINGS
-from .contents import contents
-from .program import NotReadable, Program, Reading, place_of_record
+from .program import NotReadable
+from .replay import Reading, Replay, place_of_record
 
 ROOM_BYTES = 2  # in front of the batch, high byte first
 # The line of the counts, the output in lines of an answer's length, and what is left of it.
@@ -16,7 +16,7 @@ def in_room(room, batch):
     return room.to_bytes(ROOM_BYTES, "big") + batch
 
 
-class Rooms(Program):
+class Rooms(Replay):
     """Reads two bytes for the room and then a batch; its first line has the ending and the counts."""
 
     name = "rooms"
@@ -29,9 +29,9 @@ class Rooms(Program):
 
     def edge_inputs(self, length):
         """Also those with rooms in front, as far as these go."""
-        yield from contents(length)
+        yield from super().edge_inputs(length)
         for room in TRIED if length else ():
-            for what, given in contents(max(length - ROOM_BYTES, 0)):
+            for what, given in super().edge_inputs(max(length - ROOM_BYTES, 0)):
                 yield f"room {room} and {what}", (bytes.fromhex(room) + given)[:length]
 
     def told_of_input(self, given):

@@ -3,17 +3,8 @@ from typing import NamedTuple, Optional
 
 from records import RECORD_BYTES, records_before
 from . import hextext, reading
+from .lines import COMMENT, WrongLines, numbered
 from .wording import labels_of
-
-MOST_TOLD = 20  # wrong lines of one file
-
-
-class BadInput(Exception):
-    """An input that is not what it is taken for; has a message for each thing that is wrong."""
-
-    def __init__(self, *messages):
-        super().__init__("\n".join(messages))
-        self.messages = messages
 
 
 class Remark(NamedTuple):
@@ -38,39 +29,30 @@ def comment_text(text):
 
 def remark_of(line, at, has_bytes):
     """The remark of a line, or None."""
-    statement, mark, comment = line.partition("#")
+    statement, mark, comment = line.partition(COMMENT)
     if mark:
         return Remark(at, comment_text(comment), has_bytes)
     return None if statement.strip() else Remark(at, None, False)
 
 
-def split_lines(text):
-    """The lines of a text, whatever ends them; what follows the last end is a line if it is not empty."""
-    lines = text.replace("\r\n", "\n").replace("\r", "\n").split("\n")
-    return lines if lines[-1] else lines[:-1]
-
-
 def read_text(name, text, read_line, whole_records):
     """A batch from lines; where records have to be whole, only the last may be cut."""
-    data, remarks, wrong, cut = bytearray(), [], [], None
-    for number, line in enumerate(split_lines(text), start=1):
+    data, remarks, wrong, cut = bytearray(), [], WrongLines(name), None
+    for number, line, words in numbered(text):
         try:
-            part = read_line(line.partition("#")[0])
+            part = read_line(words)
         except (reading.NotWords, hextext.NotHex) as problem:
-            wrong.append(f"{name}, line {number}: {problem}")
+            wrong.add(number, problem)
             continue
         if part and cut:
-            wrong.append(f"{name}, line {cut}: these bytes end inside a record, and line {number} follows; "
-                         "expected four bytes to each record")
+            wrong.add(cut, f"these bytes end inside a record, and line {number} follows; expected four bytes to each record")
             break
         data += part
         cut = number if whole_records and part and len(data) % RECORD_BYTES else cut
         remark = remark_of(line, len(data), bool(part))
         if remark:
             remarks.append(remark)
-    if wrong:
-        more = [f"{name}: {len(wrong) - MOST_TOLD} more lines are wrong"] if len(wrong) > MOST_TOLD else []
-        raise BadInput(*wrong[:MOST_TOLD], *more)
+    wrong.see_none()
     return Batch(bytes(data), tuple(remarks))
 
 

@@ -1,25 +1,43 @@
-"""The files that hold a batch: words, commented hex, or bytes."""
+"""The files that hold a batch or settings: words, commented hex, or bytes."""
 import codecs
 import contextlib
 import os
 import stat
+from typing import Callable, NamedTuple
 
 from records import MOST_BATCH_BYTES
-from .batch import BadInput, Batch, from_hex, from_words
+from . import batch, sheets
+from .lines import BadInput
+from .settings import MOST_SETTINGS, SETTING_BYTES
 from .terminal import tell
 
 WORDS, HEX, BYTES = "words", "hex", "bytes"
-BY_SUFFIX = {".batch": WORDS, ".hex": HEX, ".bin": BYTES}
-MOST_STREAM = 1 << 26  # bytes; far more than any batch, so that an input that never ends is told
+BY_SUFFIX = {".hex": HEX, ".bin": BYTES}
+MOST_STREAM = 1 << 26  # bytes; far more than any file has that is taken, so that an input that never ends is told
 STANDARD_INPUT = "-"
 
 
-def form_of(name, said):
+class Sort(NamedTuple):
+    """What a sort of file holds, how its name ends where it is in words, the most bytes that are taken, and how each form is read."""
+
+    holds: str
+    suffix: str
+    most_bytes: int
+    from_words: Callable  # is given what messages call the file, and its text
+    from_hex: Callable  # is given the same
+    from_bytes: Callable  # is given the bytes
+
+
+BATCH = Sort("a batch", ".batch", MOST_BATCH_BYTES, batch.from_words, batch.from_hex, batch.Batch)
+SETTINGS = Sort("settings", ".settings", MOST_SETTINGS * SETTING_BYTES, sheets.from_words, sheets.from_hex, sheets.from_bytes)
+
+
+def form_of(sort, name, said):
     """How a file's bytes are meant: as was said, or by its ending."""
-    form = said or BY_SUFFIX.get(os.path.splitext(name)[1].lower())
+    form = said or {sort.suffix: WORDS, **BY_SUFFIX}.get(os.path.splitext(name)[1].lower())
     if form is None:
-        raise BadInput(f"{name}: cannot tell what it holds; expected a name that ends in .batch (words), .hex (hex) or .bin (bytes), "
-                       "or one of --as words, --as hex and --as bytes")
+        raise BadInput(f"{name}: cannot tell what it holds; expected a name that ends in {sort.suffix} (words), .hex (hex) or "
+                       ".bin (bytes), or one of --as words, --as hex and --as bytes")
     return form
 
 
@@ -39,7 +57,7 @@ def see_another_output(name, file):
                            "expected another file behind '>'")
 
 
-def read_bytes(name, place):
+def read_bytes(sort, name, place):
     """All bytes of a file or of standard input. place is its path, or its number."""
     try:
         with open(place, "rb", closefd=place != 0) as file:
@@ -50,7 +68,7 @@ def read_bytes(name, place):
     except (OSError, ValueError) as problem:
         raise BadInput(f"{name}: cannot be read: {getattr(problem, 'strerror', None) or problem}") from problem
     if len(given) > MOST_STREAM:
-        raise BadInput(f"{name}: more than {MOST_STREAM:,} bytes have come; a batch has at most {MOST_BATCH_BYTES:,}")
+        raise BadInput(f"{name}: more than {MOST_STREAM:,} bytes have come; of {sort.holds} at most {sort.most_bytes:,} are taken")
     return given
 
 
@@ -68,17 +86,27 @@ def decoded(name, given):
     return text
 
 
-def read_batch(name, said=None):
-    """The batch of a file, or of standard input."""
+def read_file(sort, name, said=None):
+    """What a file of some sort holds, or standard input."""
     place = name
     if name == STANDARD_INPUT:
         name, place = "standard input", 0
     else:
         see_a_file(name)
-    form = form_of(name, said)
+    form = form_of(sort, name, said)
     if place == 0 and os.isatty(place):
-        tell("reading from the keyboard; Ctrl-D on a line of its own ends the batch")
-    given = read_bytes(name, place)
+        tell(f"reading {sort.holds} from the keyboard; Ctrl-D on a line of its own is the end")
+    given = read_bytes(sort, name, place)
     if form == BYTES:
-        return Batch(given)
-    return (from_words if form == WORDS else from_hex)(name, decoded(name, given))
+        return sort.from_bytes(given)
+    return (sort.from_words if form == WORDS else sort.from_hex)(name, decoded(name, given))
+
+
+def read_batch(name, said=None):
+    """The batch of a file, or of standard input."""
+    return read_file(BATCH, name, said)
+
+
+def read_settings(name, said=None):
+    """The settings of a file, or of standard input."""
+    return read_file(SETTINGS, name, said)

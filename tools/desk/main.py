@@ -4,8 +4,8 @@ import os
 import sys
 
 from commands import CannotRun
-from .batch import BadInput
 from .commands import COMMANDS
+from .lines import BadInput
 from .terminal import WHO, tell
 
 GOOD, CANNOT, WRONG, STOPPED = 0, 1, 2, 130
@@ -17,8 +17,9 @@ around it are tested, not proved.
 """
 MORE = """\
 First steps:
-  ./vorstelpijp explain examples/march.batch   the March case, line by line
-  ./vorstelpijp explain --help                 how a batch is written in words
+  ./vorstelpijp explain examples/march.batch     the March case, line by line
+  ./vorstelpijp explain --help                   how a batch is written in words
+  ./vorstelpijp counts examples/boards.settings  boards compared by numbers
 
 A program is proved and built when it is first needed, which takes some minutes
 and shows how far it is.

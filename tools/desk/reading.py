@@ -1,23 +1,15 @@
 """Words to records. A statement is one form of the table FORMS; each gives the bytes of one record, or of two."""
 import difflib
-import re
 from typing import Callable, NamedTuple
 
 import records
 from records import CONTROL_BITS, RECORD_BYTES
 from .hextext import NotHex, bytes_of_words
+from .statements import BYTE, COUNT, LEVEL, SEPARATOR, NotWords, assigned, is_register, number, register_number, taken, words_in
 from .terminal import shortened
-from .vocabulary import REGISTER_NUMBERS
 
-BYTE, COUNT, LEVEL = 255, 65535, 1  # the greatest values
-MOST_DIGITS = 8  # more than any number in range has
-SEPARATOR = ";"
 SHAPE_OF_BYTES = "bytes 0a 01 02 03"
 BITS = "V0 V1 V2 F0 to F6 P R0 R1 M0 M1 TY"
-
-
-class NotWords(Exception):
-    """A statement that is none of the forms; says what was expected."""
 
 
 class Form(NamedTuple):
@@ -33,48 +25,9 @@ class Form(NamedTuple):
         return self.shape.split()[0]
 
 
-def number(word, most, what):
-    """A number from 0 to most, decimal or with $ in hex."""
-    limits = f"0 to {most}" + (f", or $0 to ${most:X} in hex" if most > LEVEL else "")
-    if not re.fullmatch(r"[0-9]+|\$[0-9A-Fa-f]+", word):
-        raise NotWords(f"'{shortened(word)}' is not a number; {what} is one from {limits}")
-    digits = word.lstrip("$").lstrip("0") or "0"
-    value = int(digits, 16 if word.startswith("$") else 10) if len(digits) <= MOST_DIGITS else most + 1
-    if value > most:
-        raise NotWords(f"{shortened(word)} is too large; {what} goes from {limits}")
-    return value
-
-
-def register_number(word):
-    """The number of a register that is named R0 to R31."""
-    match = re.fullmatch(r"[Rr]([0-9]{1,2})", word)
-    if not match or int(match.group(1)) >= REGISTER_NUMBERS:
-        raise NotWords(f"'{shortened(word)}' is no register; they are R0 to R{REGISTER_NUMBERS - 1}")
-    return int(match.group(1))
-
-
-def is_register(word):
-    """Whether a word looks like a register's name."""
-    return re.fullmatch(r"[Rr][0-9]+", word) is not None
-
-
-def taken(words, count, shape):
-    """The words behind the first, which are to be so many."""
-    if len(words) < count:
-        raise NotWords(f"something is missing; expected it as in '{shape}'")
-    if len(words) > count:
-        raise NotWords(f"'{shortened(words[count])}' is too much; expected it as in '{shape}', "
-                       "with ';' before another record and '#' before a comment")
-    return words
-
-
 def assign(words):
     """The register, '=' and its value."""
-    target = register_number(words[0])
-    if words[1:2] != ["="]:
-        raise NotWords(f"expected '=' behind it, as in '{shortened(words[0])} = 63'")
-    value, = taken(words[2:], 1, f"{words[0]} = 63")
-    return records.put(target, number(value, BYTE, "a register's value"))
+    return records.put(*assigned(words))
 
 
 def select(words):
@@ -189,7 +142,7 @@ def guess(word):
 
 def read_statement(text):
     """The bytes of one statement."""
-    words = text.replace("=", " = ").split()
+    words = words_in(text)
     if not words:
         return b""
     if is_register(words[0]):

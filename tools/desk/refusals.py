@@ -1,5 +1,6 @@
-"""Why a record was refused or a replay ended, and what to do about it."""
+"""Why a record or a file of settings was refused or a replay ended, and what to do about it."""
 from records import GREATEST_FIELDS, KIND_NAMES, MOST_BATCH_BYTES, RECORD_BYTES
+from .settings import MOST_SETTINGS, SETTING_BYTES, number_of
 
 TOO_LONG = "too long"
 EMPTY = "the batch is empty: it has no record"
@@ -67,3 +68,19 @@ def surprise(data, end):
     if not data:
         return EMPTY
     return ending(3, data[len(data) // RECORD_BYTES * RECORD_BYTES:]) if end == 3 else None
+
+
+def not_settings(length):
+    """Why so many bytes are not 1 to 64 whole settings, and what to do; nothing where they are."""
+    whole, rest = divmod(length, SETTING_BYTES)
+    said = []
+    if not length:
+        said.append(f"there is no setting. Begin one with the word 'setting', or give {SETTING_BYTES} bytes for each, "
+                    f"R0 to R{SETTING_BYTES - 1}.")
+    if rest:
+        said.append(f"the last setting is cut: it has {rest} of a setting's {SETTING_BYTES} bytes, "
+                    f"behind {number_of(whole, 'whole one', 'whole ones')}. The file was cut, or a byte is missing or too many somewhere before.")
+    if whole > MOST_SETTINGS:
+        said.append(f"there are {whole:,} settings; at most {MOST_SETTINGS} are counted at once. "
+                    "Cut the file, and count each part by itself: it has totals of its own.")
+    return " ".join(said)

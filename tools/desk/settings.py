@@ -1,8 +1,10 @@
-"""What a byte means to the register that it is written to, in words."""
+"""What a setting is, sixteen bytes for R0 to R15, and what a byte means to the register that it is written to, in words."""
 from records import KEPT_BITS
 from .vocabulary import in_hex, register_value
 
 LAST_WRITTEN = 15
+SETTING_BYTES = LAST_WRITTEN + 1
+MOST_SETTINGS = 64  # that are counted at once
 MODES = ((0x04, "addresses by row and column"), (0x10, "display enable delayed"), (0x20, "cursor delayed"))
 UNUSED_MODES = (0, 1, 3, 6, 7)  # bits of R8, by number
 BLINKS = ("steady", "never shown", "blinking, 8 frames on and 8 off", "blinking, 16 frames on and 16 off")
@@ -10,7 +12,7 @@ BLINKS = ("steady", "never shown", "blinking, 8 frames on and 8 off", "blinking,
 
 def number_of(number, one, many):
     """A number of things."""
-    return f"{number} {one if number == 1 else many}"
+    return f"{number:,} {one if number == 1 else many}"
 
 
 def widths(value):
@@ -51,10 +53,15 @@ MEANINGS = (
 )
 
 
+def kept(number, value):
+    """What a register that can be written keeps of a byte."""
+    return value & KEPT_BITS.get(number, 255)
+
+
 def meaning(number, value):
     """What a byte written to a register means there."""
     if number > LAST_WRITTEN:
         return "cannot be written, so nothing changes"
-    mask = KEPT_BITS.get(number, 255)
-    kept, words = value & mask, MEANINGS[number](value & mask)
-    return words if kept == value else f"{mask.bit_length()} bits are kept, {register_value(number, kept)}: {words}"
+    held = kept(number, value)
+    words = MEANINGS[number](held)
+    return words if held == value else f"{kept(number, 255).bit_length()} bits are kept, {register_value(number, held)}: {words}"

@@ -21,9 +21,9 @@ def tell(words):
         os.write(2, f"{WHO}: {printable(str(words))}\n".encode())
 
 
-def shortened(word):
+def shortened(word, most=LONGEST_WORD):
     """A word for a message, its beginning where it is long."""
-    return word if len(word) <= LONGEST_WORD else word[:LONGEST_WORD] + ".."
+    return word if len(word) <= most else word[:most] + ".."
 
 
 class Paper:

@@ -6,13 +6,15 @@ from records import GREATEST_FIELDS, record
 
 
 class Trial(NamedTuple):
-    """One call: its words, its status, what it prints, parts of what it says on standard error (none: nothing), the files there."""
+    """One call: its words, its status, what it prints, parts of what it says on standard error (none: nothing), the files there, and its
+    standard input."""
 
     words: tuple
     status: int
     printed: bytes
     said: tuple
     files: dict = {}
+    given: bytes = b""
 
     def is_met_by(self, status, printed, said):
         """Whether a call ended and said what is due; where nothing is due on standard error, it said nothing there."""
@@ -35,6 +37,49 @@ def edges():
 
 STRIKE = bytes((4, 0, 0, 0))
 LATCHED, DONE = b"0400000200000000\n", b"0100000000000000\n"
+# Setting A in words and as bytes, and what is counted of it.
+A_IN_WORDS = b"R0 = 3; R1 = 2; R4 = 1; R5 = 1; R6 = 2; R9 = $01\n"
+A = bytes((3, 2, 0, 0, 1, 1, 2, 0, 0, 1, 0, 0, 0, 0, 0, 0))
+A_COUNTED = b"8 8 1 0 20 32 3\ntotal 8 8 1 0 20 32 3\n"
+A_TABLE = b"""\
+setting  picture  enable  cursor  HSYNC  VSYNC  MA changes  largest
+1              8       8       1      0     20          32        3
+total          8       8       1      0     20          32        3
+"""
+# One byte of which less is kept, and the same as it is kept.
+KEPT = b"# two\r\nsetting as told # $C8\r\nR1 = 1; R6 = 1; R4 = 200; R15 = 1\r\nsetting as kept; R1=1; R6=1; R4=72; R15=1\r\n"
+KEPT_TABLE = b"""\
+setting     picture  enable  cursor  HSYNC  VSYNC  MA changes  largest
+1  as told        1       1       0      0     16         144        7
+2  as kept        1       1       0      0     16         144        7
+total             2       2       0      0     32         288        7
+
+R4 = 200 in setting 1: the register keeps 72
+"""
+NO_SETTING = b"refused 10: there is no setting. Begin one with the word 'setting', or give 16 bytes for each, R0 to R15.\n"
+
+COUNTED = (
+    Trial(("counts", "a.settings"), 0, A_TABLE, (), {"a.settings": A_IN_WORDS}),
+    Trial(("counts", "kept.settings"), 0, KEPT_TABLE, (), {"kept.settings": KEPT}),
+    Trial(("counts", "--plain", "a.hex"), 0, b"8 8 1 0 20 32 3\n8 8 1 0 20 32 3\ntotal 16 16 2 0 40 64 3\n", (),
+          {"a.hex": 2 * (A.hex().encode() + b" # A\n")}),
+    Trial(("counts", "a.bin", "--plain"), 0, A_COUNTED, (), {"a.bin": A}),
+    Trial(("counts", "--as", "bytes", "--plain", "a.txt"), 0, A_COUNTED, (), {"a.txt": A}),
+    Trial(("counts", "--as", "words", "-"), 0, A_TABLE, (), given=b"setting\n" + A_IN_WORDS),
+    Trial(("counts", "-"), 2, b"", ("standard input", ".settings", "--as"), given=A_IN_WORDS),
+    Trial(("counts", "good.batch"), 2, b"", ("good.batch", ".settings (words)"), {"good.batch": A_IN_WORDS}),
+    Trial(("counts", "wrong.settings"), 2, b"",
+          ("line 2: R0 is set twice", "line 3: 'R16'", "R0 to R15", "line 4", "no word 'clock'", "line 5: 256", "0 to 255"),
+          {"wrong.settings": b"R0 = 1\nR0 = 1\nR16 = 0\nclock 1\nsetting B; R0 = 256\n"}),
+    Trial(("counts", "wrong.hex"), 2, b"", ("wrong.hex, line 2", "odd number"), {"wrong.hex": A.hex().encode() + b"\n012\n"}),
+    Trial(("counts", "empty.settings"), 0, NO_SETTING, (), {"empty.settings": b"# none\n"}),
+    Trial(("counts", "--plain", "empty.settings"), 0, b"refused 10\n", ("there is no setting",), {"empty.settings": b"# none\n"}),
+    Trial(("counts", "--plain", "cut.bin"), 0, b"refused 10\n", ("3 of a setting's 16 bytes", "behind 1 whole one."), {"cut.bin": A + A[:3]}),
+    Trial(("counts", "--plain", "many.settings"), 0, b"refused 10\n", ("there are 65 settings", "at most 64"),
+          {"many.settings": 65 * b"setting;"}),
+    Trial(("counts", "--plain", "most.settings"), 0, 64 * b"0 0 0 0 1 0 0\n" + b"total 0 0 0 0 64 0 0\n", (),
+          {"most.settings": 64 * b"setting;"}),
+)
 
 TRIALS = (
     Trial(("listing", "good.batch"), 0, LATCHED + b"end 0\n", (), {"good.batch": b"strike  # latch 2\r\n"}),
@@ -64,4 +109,5 @@ TRIALS = (
     Trial(("rooms", "9000", "two.batch"), 2, b"", ("0 to 8192",), {"two.batch": b"strike; strike\n"}),
     Trial(("listen", "two.batch"), 2, b"", ("listen", "listing"), {"two.batch": b"strike; strike\n"}),
     Trial((), 2, b"", ("usage", "explain")),
+    *COUNTED,
 )

@@ -1,2 +1,3 @@
 """What tools/check-linked is made of: the declarations in the Rattle sources, their layout in C, the C file that holds the header to
-it, the host program that knows the proved code by the header alone, and the batches that it replays."""
+it, the host programs that know the proved code by the header alone, the batches that the one replays, and the reports on settings
+that the other has laid into places."""

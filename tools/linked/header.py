@@ -8,15 +8,22 @@ from .sources import Unfit
 HEADER = "vorstelpijp.h"
 STRICT = ["-std=c11", "-Wall", "-Wextra", "-Wstrict-prototypes", "-Werror"]
 COMMENT = re.compile(r"/\*.*?\*/|//[^\n]*", re.S)
+# C's own words for the plain types. It has two for 64 bits: the longest one is for numbers, the other for counts of places.
+NATIVE = {
+    "u8": "unsigned char", "u16": "unsigned short", "u32": "unsigned int", "u64": "unsigned long long", "usize": "unsigned long",
+    "bool": "_Bool",
+}
 BEGINNING = f"""/* Written by tools/check-linked: what the Rattle sources say of each struct and each call that C sees. */
 #include "{HEADER}"
 """
 
 
 def own_types():
-    """The plain types by names that no header has."""
-    natives = {name: "_Bool" if name == "bool" else f"__UINT{8 * size}_TYPE__" for name, size in PLAIN.items()}
-    return [f"typedef {native} proved_{name};" for name, native in natives.items()]
+    """The plain types by names that no header has; each has to be of the size that the layout goes by."""
+    lines = []
+    for name, size in PLAIN.items():
+        lines += [f"typedef {NATIVE[name]} proved_{name};", demand(f"sizeof(proved_{name}) == {size}", f"C has no {name} here")]
+    return lines
 
 
 def thing(laid, name):

@@ -4,9 +4,11 @@ import re
 
 from .sources import Unfit, named_types
 
-PLAIN = {"u8": 1, "u16": 2, "u32": 4, "u64": 8, "bool": 1}
+PLAIN = {"u8": 1, "u16": 2, "u32": 4, "u64": 8, "usize": 8, "bool": 1}
 POINTER = 8
 ARRAY = re.compile(r"\[\s*(.+?)\s*;\s*([0-9]+)\s*\]", re.S)
+LENT = re.compile(r"&\s*(mut\s+)?(.+)", re.S)
+PART = re.compile(r"\[\s*([^;]+?)\s*\]", re.S)
 
 # a type: its size and alignment; in C a thing of it is declared 'base name suffix'
 Laid = collections.namedtuple("Laid", "size align base suffix")
@@ -75,23 +77,35 @@ class Layouts:
 
     def passed(self, words, path):
         """The type of a parameter or a result; what is lent becomes a pointer."""
-        lent = re.fullmatch(r"&\s*(mut\s+)?(.+)", words, re.S)
+        lent = LENT.fullmatch(words)
         if lent:
-            base = self.passed(lent.group(2), path).base
-            return Laid(POINTER, POINTER, f"{'' if lent.group(1) else 'const '}{base} *", "")
+            return pointer_to(self.passed(lent.group(2), path), lent.group(1))
         laid = self.laid(words, path)
         if laid.suffix:
             raise Unfit(f"an exported call has '{words}' as a parameter or result, and C passes no arrays")
         return laid
 
+    def parameters(self, name, words, path):
+        """A parameter as C has it. Of a lent part it has two: a pointer to the first place, and how many places there are."""
+        lent = LENT.fullmatch(words)
+        part = PART.fullmatch(lent.group(2)) if lent else None
+        if not part:
+            return [(name, self.passed(words, path))]
+        return [(name, pointer_to(self.laid(part.group(1), path), lent.group(1))), (f"{name}_count", self.laid("usize", path))]
+
     def call(self, exported):
         """An exported call by its types."""
         try:
-            parameters = [(name, self.passed(words, exported.path)) for name, words in exported.parameters]
+            parameters = [one for name, words in exported.parameters for one in self.parameters(name, words, exported.path)]
             result = self.passed(exported.result, exported.path) if exported.result else None
         except Unfit as problem:
             raise Unfit(f"{exported.name}: {problem}") from problem
         return Call(exported.name, parameters, result)
+
+
+def pointer_to(each, mutable):
+    """The type of a pointer to something lent; what is not lent to be changed is constant."""
+    return Laid(POINTER, POINTER, f"{'' if mutable else 'const '}{each.base} *", "")
 
 
 def proved_declarations(sources, crate="exports"):

@@ -62,7 +62,7 @@ CHANGES = [
            "4,096 bytes taken are told as none"),
     Change("room.rs", "two_bytes(replayed.answers_written)", "two_bytes(replayed.answers_written % 1024)",
            "1,024 answers are told as none"),
-    Change("room.rs", 'from("no room\\n")', 'from("no room")', "the words for a missing room have no line end"),
+    Change("room.rs", '"no room\\n"', '"no room"', "the words for a missing room have no line end"),
     Change("listing.rs", "batch.len() > MOST_INPUT", "batch.len() >= MOST_INPUT", "a batch of 4,096 bytes is too long"),
     Change("listing.rs", "(1..=6).contains(select)", "(2..=6).contains(select)", "select 1 beside RAM is not odd",
            tests_only=NO_ODD),

@@ -4,13 +4,19 @@ import shutil
 
 from batches.outputs import describe_difference
 from commands import TOP, CannotRun, attempt
+from compared import PROGRAMS
 from programs import CARGO_WORDS, outcome_of
 
 SECONDS_FOR_ONE = 20  # a changed program that needs more hangs: the unchanged one takes less than one
 BY_COMPARISON, BY_TESTS, BY_NEITHER = "comparison", "tests", "neither"
 
-# batch: the number of the first batch that shows the change, or None
+# batch: the first one that shows the change, or None
 Verdict = collections.namedtuple("Verdict", "change by batch")
+
+
+def named(batch):
+    """A batch by its number; those of tools/check-linked have numbers of their own."""
+    return f"batch {batch.number}" if batch.program in PROGRAMS else f"{batch.program.name} {batch.number}"
 
 
 def see_table(changes):
@@ -40,11 +46,11 @@ class Workshop:
             raise CannotRun(f"{what} does not build:\n{said}")
 
     def first_difference(self, proved):
-        """The number of the first batch on which the program here is not as the proved one, or None."""
+        """The first batch on which the program here is not as the proved one, or None."""
         for batch, outcome in proved:
             here = outcome_of(batch.program.second_words(self.program), batch.input, SECONDS_FOR_ONE)
             if describe_difference(batch, outcome, here):
-                return batch.number
+                return batch
         return None
 
     def see_unchanged(self, proved):
@@ -52,7 +58,7 @@ class Workshop:
         self.build("the second program")
         batch = self.first_difference(proved)
         if batch:
-            raise CannotRun(f"the unchanged second program differs in batch {batch}; tools/compare tells more")
+            raise CannotRun(f"the unchanged second program differs in {named(batch)}; tools/compare or tools/check-linked tells more")
         well, said = self.cargo("test")
         if not well:
             raise CannotRun(f"the unchanged second program fails its own tests:\n{said}")

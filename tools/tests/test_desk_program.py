@@ -9,9 +9,9 @@ import unittest
 from unittest import mock
 
 from commands import TOP
-from desk.batch import BadInput
 from desk.commands import COMMANDS
 from desk.files import read_batch
+from desk.lines import BadInput
 from desk.main import command_line, main
 from desk.terminal import Paper
 

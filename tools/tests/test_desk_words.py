@@ -2,8 +2,9 @@
 import random
 import unittest
 
-from desk.batch import BadInput, Batch, Remark, from_hex, from_words
+from desk.batch import Batch, Remark, from_hex, from_words
 from desk.files import decoded
+from desk.lines import BadInput
 from desk.reading import FORMS, NotWords, read_line
 from desk.trials import edges
 from desk.wording import labels_of, statements_of

@@ -1,6 +1,6 @@
 -- Laws of numbers in a row. Assumes nothing.
 use Prim.Native.Nat.{ℕ, zero, suc, _+_, _≤_, _<_}
-use mathlib.Core.Path.{_≡_, refl, ap, sym, _∙_}
+use mathlib.Core.Path.{_≡_, refl, ap, ap₂, sym, _∙_}
 use mathlib.Core.List.{List, [], _∷_, _++_, map, map-append, List·Memᴰ, List·Memᴰ·head, List·Memᴰ·tail, List·Memᴰ·not-nil, List·Memᴰ·cases-cons}
 use mathlib.Core.Logic.{⊎-elim}
 use native.Mathlib.Nat.{add-zero, zero-add, add-suc, suc-add, eq-or-lt-of-le}
@@ -65,3 +65,13 @@ module _ {A : Type 0} (f : ℕ → A) where
   -- what stands at a place
   pub each-at : (d : A) (n k : ℕ) → k < n → getD (map f (count 0 n)) k d ≡ f k
   each-at d n k h = each-from d 0 n k h ∙ ap f (zero-add k)
+
+-- what is made alike of each number below n
+module _ {A : Type 0} (f g : ℕ → A) where
+  same-from : (a n : ℕ) → ((k : ℕ) → k < a + n → f k ≡ g k) → map f (count a n) ≡ map g (count a n)
+  unfolding count
+  same-from a zero h = refl
+  same-from a (suc n) h = ap₂ (λ (x : A) (l : List A). x ∷ l) (h a (omega arith)) (same-from (suc a) n (λ k l. h k (omega arith)))
+
+  pub each-same : (n : ℕ) → ((k : ℕ) → k < n → f k ≡ g k) → map f (count 0 n) ≡ map g (count 0 n)
+  each-same n h = same-from 0 n (λ k l. h k (omega arith))

@@ -1,12 +1,12 @@
 -- The report as its loop and its call lay it. Assumes nothing.
 use Prim.Native.Nat.{ℕ, _+_, _*_, _/_, _%_, _<_, _≤_}
 use mathlib.Core.Path.{_≡_, refl, ap, sym, _∙_}
-use mathlib.Core.Bool.{true, false, _&&_, and-eq-true-iff}
+use mathlib.Core.Bool.{Bool, true, false, _&&_, and-eq-true-iff}
 use mathlib.Core.List.{List, _++_}
 use native.Mathlib.Omega.{arith}
 use lib.Dec.{eqb, ltb, leb}
-use lib.ListN.{length}
-use borrow.Author.Tests.{lt-ltb, le-ltb, leb-true}
+use lib.ListN.{length, length-append}
+use borrow.Author.Tests.{lt-ltb, le-ltb, ltb-false, leb-true}
 use Rattle.basics.specs.Choice.{if_then_else_}
 use Rattle.basics.specs.Count.{count}
 use Rattle.basics.specs.Lay.{laidAt}
@@ -28,10 +28,10 @@ pub record Laying (given out₀ : List ℕ) (k : ℕ) (out : List ℕ) (total : 
   pub totals : total ≡ totalsOf (talliesOf given k)
   pub small : AtMost (k * 235794944) total
 
-module _ (given out₀ : List ℕ) where
-  length-first : (k : ℕ) → length (placesOf (talliesOf given k)) ≡ row * k
-  length-first k = length-places (talliesOf given k) ∙ ap (λ (n : ℕ). row * n) (length-each (tallyAt given) k)
+length-first : (given : List ℕ) (k : ℕ) → length (placesOf (talliesOf given k)) ≡ row * k
+length-first given k = length-places (talliesOf given k) ∙ ap (λ (n : ℕ). row * n) (length-each (tallyAt given) k)
 
+module _ (given out₀ : List ℕ) where
   pub laying-none : (total : Tally) → total ≡ noTally → Laying given out₀ 0 out₀ total
   unfolding totalsOf placesOf sum greatest count
   laying-none total e = record {
@@ -47,7 +47,7 @@ module _ (given out₀ : List ℕ) where
       let fits : row * k + length (rowOf one) ≤ length out₀ = omega (arith, length-row one) in
       let more : laidAt out (row * k) (rowOf one) ≡ laidAt out₀ 0 (placesOf (talliesOf given k) ++ rowOf one) =
       ap (λ (l : List ℕ). laidAt l (row * k) (rowOf one)) (x .rows)
-      ∙ laid-laid out₀ 0 (placesOf (talliesOf given k)) (rowOf one) (row * k) (omega (arith, length-first k)) fits in
+      ∙ laid-laid out₀ 0 (placesOf (talliesOf given k)) (rowOf one) (row * k) (omega (arith, length-first given k)) fits in
       record {
         long = ap length en ∙ length-laid out (row * k) (rowOf one) (omega (arith, x .long)) ∙ x .long;
         rows = en ∙ more ∙ rw (each-last (tallyAt given) k, places-last, er);
@@ -75,7 +75,7 @@ module _ (given out₀ : List ℕ) where
       let n = settingsIn given in
       let both : laidAt mid (row * n) (rowOf total) ≡ laidAt out₀ 0 (placesOf (talliesOf given n) ++ rowOf (totalsOf (talliesOf given n))) =
       rw (em, et)
-      (laid-laid out₀ 0 (placesOf (talliesOf given n)) (rowOf (totalsOf (talliesOf given n))) (row * n) (omega (arith, length-first n))
+      (laid-laid out₀ 0 (placesOf (talliesOf given n)) (rowOf (totalsOf (talliesOf given n))) (row * n) (omega (arith, length-first given n))
       (omega (arith, length-row (totalsOf (talliesOf given n))))) in
       (rw (w, q), (rw (w, q) (eo ∙ both), refl))
 
@@ -85,3 +85,36 @@ unfolding areSettings
 settings-few n w =
     let q = and-eq-true-iff (ltb 0 n && leb n (most * bytes)) (eqb (n % bytes) 0) .0 w in
     omega (arith, leb-true n (most * bytes) (and-eq-true-iff (ltb 0 n) (leb n (most * bytes)) .0 (q .0) .1))
+
+-- what an answer of 0 says: the bytes are settings, there was room, and the report is laid
+pub record Done (given out : List ℕ) : Type 0 where
+  pub settings : areSettings (length given) ≡ true
+  pub room : needed given ≤ length out
+  pub laid : reportedOf given out ≡ laidAt out 0 (reportOf given)
+
+pub done : (given out : List ℕ) → refusalOf given (length out) ≡ 0 → Done given out
+unfolding refusalOf reportedOf if_then_else_
+done given out = go (areSettings (length given)) refl (ltb (length out) (needed given)) refl
+  where
+    go : (b : Bool) → areSettings (length given) ≡ b → (f : Bool) → ltb (length out) (needed given) ≡ f
+        → _≡_ {A = ℕ} (if b then (if f then 11 else 0) else 10) 0
+        → Done given out
+    go true e false f z = record { settings = e; room = ltb-false _ _ f; laid = rw (e, f) }
+    go true e true f z = absurd (omega arith)
+    go false e f g z = absurd (omega arith)
+
+-- and any other where there are places enough for every report: they are not
+pub not-settings : (given : List ℕ) (places : ℕ) → row * (most + 1) ≤ places → (refusalOf given places ≡ 0 → ⊥) → areSettings (length given) ≡ false
+unfolding refusalOf if_then_else_
+not-settings given places h n = go (areSettings (length given)) refl
+  where
+    go : (b : Bool) → areSettings (length given) ≡ b → areSettings (length given) ≡ false
+    go false e = e
+    go true e =
+        let few = settings-few (length given) e in
+        absurd (n (rw (e, le-ltb places (needed given) (omega arith))))
+
+pub length-report : (given : List ℕ) → length (reportOf given) ≡ needed given
+unfolding reportOf
+length-report given =
+    simp (length-append, length-row, length-first given) (omega arith)

@@ -1,4 +1,4 @@
-"""What a command is, and what those that take a batch have in common."""
+"""What a command is, and what those that take a file or a batch have in common."""
 from typing import Callable, NamedTuple
 
 from commands import CannotRun
@@ -9,11 +9,13 @@ from ..proved import printed
 from ..reading import FORMS
 from ..terminal import tell
 
-HOW_A_FILE_IS_READ = """\
-FILE is a batch: in words (.batch), as commented hex (.hex) or as bytes (.bin).
+ANY_OTHER_FILE = """\
 --as says what any other file is, and what comes on standard input, for which
 FILE is '-'. It is read and never written.
 """
+HOW_A_BATCH_IS_READ = f"""\
+FILE is a batch: in words (.batch), as commented hex (.hex) or as bytes (.bin).
+{ANY_OTHER_FILE}"""
 HOW_WORDS_ARE_WRITTEN = """\
 A batch in words has one record or a few a line, with ';' between them. '#'
 begins a comment. Numbers are decimal, or hex with '$'.
@@ -33,15 +35,25 @@ class Command(NamedTuple):
     run: Callable  # is given the arguments, and gives the text or the bytes for standard output
 
 
+def in_columns(pairs, width=19):
+    """Words, each with what it means behind it, for a help text."""
+    return "\n".join(f"  {words:<{width}} {meaning}" for words, meaning in pairs)
+
+
 def vocabulary():
     """The forms of words, for a help text."""
-    return HOW_WORDS_ARE_WRITTEN.format("\n".join(f"  {form.shape:<19} {form.meaning}" for form in FORMS))
+    return HOW_WORDS_ARE_WRITTEN.format(in_columns((form.shape, form.meaning) for form in FORMS))
+
+
+def add_file(parser, what):
+    """The arguments that name a file; what is said to be in it."""
+    parser.add_argument("file", metavar="FILE", help=f"{what}; '-' is standard input")
+    parser.add_argument("--as", dest="form", choices=(WORDS, HEX, BYTES), help="what FILE holds, whatever its name ends in")
 
 
 def add_batch(parser):
     """The arguments that name a batch."""
-    parser.add_argument("file", metavar="FILE", help="the batch; '-' is standard input")
-    parser.add_argument("--as", dest="form", choices=(WORDS, HEX, BYTES), help="what FILE holds, whatever its name ends in")
+    add_file(parser, "the batch")
 
 
 def batch_of(asked):
@@ -51,7 +63,7 @@ def batch_of(asked):
 
 def batch_command(name, summary, about, run, add_arguments=add_batch):
     """A command that takes a batch."""
-    return Command(name, summary, about, f"{HOW_A_FILE_IS_READ}\n{vocabulary()}", add_arguments, run)
+    return Command(name, summary, about, f"{HOW_A_BATCH_IS_READ}\n{vocabulary()}", add_arguments, run)
 
 
 def replayed(program, batch, given):

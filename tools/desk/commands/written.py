@@ -1,7 +1,7 @@
 """A batch written in another form: as words, as commented hex, as bytes."""
 import os
 
-from ..batch import BadInput
+from ..lines import BadInput
 from ..writing import as_hex, as_words
 from .command import batch_command, batch_of
 
