@@ -1,15 +1,15 @@
 """What the proved program counts of settings, as a table for people. The numbers are its own."""
-import re
+import contextlib
 
 from commands import CannotRun
+from compared import COUNTS, NotReadable
 from . import refusals
-from .settings import SETTING_BYTES, kept
+from .settings import kept
 from .sheets import bytes_of
 from .terminal import printable, shortened
 from .vocabulary import register_value
 from .writing import text_of
 
-PROGRAM = "counts"
 COLUMNS = (
     ("picture", "in the picture, which is the chip's own fact"),
     ("enable", "with the display enable pin high"),
@@ -20,11 +20,8 @@ COLUMNS = (
     ("largest", "the most of them that changed at once"),
 )
 HEAD, TOTAL = "setting", "total"
-REFUSED = "refused 10"
 BESIDE = 2  # spaces between two columns
 LEAST_LABEL = 10  # letters of a setting's number and name that are shown on any terminal
-NUMBERS = " ".join(["(?:0|[1-9][0-9]{0,19})"] * len(COLUMNS))
-LAYOUT = re.compile(f"(?:{NUMBERS}\n)+{TOTAL} {NUMBERS}\n")
 
 
 def why_refused(settings):
@@ -35,11 +32,10 @@ def why_refused(settings):
 def rows_of(text, settings):
     """The rows of numbers that were printed for settings, the totals last; none where these were refused."""
     refused = bool(why_refused(settings))
-    if refused and text == f"{REFUSED}\n":
-        return []
-    if not refused and LAYOUT.fullmatch(text) and text.count("\n") == len(settings) + 1:
-        return [[int(word) for word in line.split(" ")[-len(COLUMNS):]] for line in text.splitlines()]
-    raise CannotRun(f"the program '{PROGRAM}' printed what it does not print of these settings")
+    with contextlib.suppress(NotReadable):
+        if len(COUNTS.read(text).rows) == (0 if refused else len(settings)):  # a refusal has none, a report one at least
+            return [] if refused else [[int(word) for word in line.split()[-len(COLUMNS):]] for line in text.splitlines()]
+    raise CannotRun(f"the program '{COUNTS.name}' printed what it does not print of these settings")
 
 
 def labels_of(settings):
@@ -81,6 +77,6 @@ def table(settings, text, paper):
     """The whole text for people, from what was printed for settings."""
     rows = rows_of(text, settings)
     if not rows:
-        return paper.laid(f"{REFUSED}: ", why_refused(settings)) + "\n"
+        return paper.laid(f"{text.strip()}: ", why_refused(settings)) + "\n"
     remarks = remarks_of(settings)
     return text_of([*table_lines(settings, rows, paper), *([""] if remarks else []), *remarks])

@@ -5,10 +5,9 @@ import os
 import stat
 from typing import Callable, NamedTuple
 
-from records import MOST_BATCH_BYTES
+from records import MOST_BATCH_BYTES, MOST_SETTINGS, SETTING_BYTES
 from . import batch, sheets
 from .lines import BadInput
-from .settings import MOST_SETTINGS, SETTING_BYTES
 from .terminal import tell
 
 WORDS, HEX, BYTES = "words", "hex", "bytes"

@@ -1,6 +1,6 @@
 """Why a record or a file of settings was refused or a replay ended, and what to do about it."""
-from records import GREATEST_FIELDS, KIND_NAMES, MOST_BATCH_BYTES, RECORD_BYTES
-from .settings import MOST_SETTINGS, SETTING_BYTES, number_of
+from records import GREATEST_FIELDS, KIND_NAMES, MOST_BATCH_BYTES, MOST_SETTINGS, RECORD_BYTES, SETTING_BYTES
+from .settings import number_of
 
 TOO_LONG = "too long"
 EMPTY = "the batch is empty: it has no record"

@@ -1,10 +1,8 @@
-"""What a setting is, sixteen bytes for R0 to R15, and what a byte means to the register that it is written to, in words."""
+"""What a byte means to the register that it is written to, in words."""
 from records import KEPT_BITS
 from .vocabulary import in_hex, register_value
 
 LAST_WRITTEN = 15
-SETTING_BYTES = LAST_WRITTEN + 1
-MOST_SETTINGS = 64  # that are counted at once
 MODES = ((0x04, "addresses by row and column"), (0x10, "display enable delayed"), (0x20, "cursor delayed"))
 UNUSED_MODES = (0, 1, 3, 6, 7)  # bits of R8, by number
 BLINKS = ("steady", "never shown", "blinking, 8 frames on and 8 off", "blinking, 16 frames on and 16 off")

@@ -1,10 +1,10 @@
 """Settings from a file: a sheet in words, commented hex, or bytes. A setting is sixteen bytes, R0 to R15."""
 from typing import NamedTuple
 
+from records import SETTING_BYTES, settings_of
 from . import hextext
 from .batch import read_text
 from .lines import WrongLines, numbered
-from .settings import SETTING_BYTES
 from .statements import SEPARATOR, NotWords, assigned, is_register, words_in
 from .terminal import shortened
 from .vocabulary import register_value
@@ -84,7 +84,7 @@ def from_hex(name, text):
 
 def from_bytes(data):
     """Settings from bytes, which have no names; the last may be cut."""
-    return [Setting("", data[at:at + SETTING_BYTES]) for at in range(0, len(data), SETTING_BYTES)]
+    return [Setting("", one) for one in settings_of(data)]
 
 
 def bytes_of(settings):

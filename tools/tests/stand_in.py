@@ -2,7 +2,7 @@
 
 usage: stand_in.py NAME FAULT INPUT
 
-NAME is listing or rooms, FAULT one of those below or another word. INPUT is 'folder' where standard
+NAME is that of the program, FAULT one of those below or another word. INPUT is 'folder' where standard
 input is a folder: Python itself does not start with one, so a shell gives it another input and this word.
 """
 import os
@@ -27,7 +27,8 @@ def read_all(fault, kind):
 def text_for(name, fault, given):
     """What is printed for an input."""
     prints_nothing = (fault == "prints nothing for 4,092 bytes" and len(given) == 4092
-                      or fault == "prints nothing for a room and a byte" and name == "rooms" and len(given) == 3)
+                      or fault == "prints nothing for a room and a byte" and name == "rooms" and len(given) == 3
+                      or fault == "prints nothing for 64 settings" and name == "counts" and len(given) == 1024)
     return b"" if prints_nothing else f"{name}: {len(given)} bytes, {sum(given)}\n".encode()
 
 

@@ -21,6 +21,8 @@ SCAN = "struct scan { u8 column, line, row; u16 base, start; u8 field; _Bool adj
 CLOCK = "struct controller controller_clock(struct controller c, u16 n);"
 LOCATE = "struct found controller_locate(struct controller c);"
 RESET = "struct controller controller_reset(struct controller c);"
+REPORT = "u8 settings_report(const u8 *settings, unsigned long settings_count, u64 *places, unsigned long places_count);"
+LONGEST = "typedef unsigned long long u64;"
 
 # What is wrong with a header: the words of it that are replaced, those in their place, and words of the refusal.
 WRONG_HEADERS = {
@@ -50,6 +52,16 @@ WRONG_HEADERS = {
     "a parameter too many": (RESET, RESET.replace("c)", "c, u16 n)"), "controller_reset"),
     "parameters left open": (RESET, RESET.replace("struct controller c)", ")"), "prototype"),
     "another result": (LOCATE, LOCATE.replace("struct found", "struct display"), "controller_locate"),
+    "a part that could be changed": (REPORT, REPORT.replace("const u8", "u8"), "settings_report"),
+    "a part that could not be changed": (REPORT, REPORT.replace("u64 *places", "const u64 *places"), "settings_report"),
+    "parts in the other order": (REPORT, "u8 settings_report(u64 *places, unsigned long m, const u8 *settings, unsigned long n);", "settings_report"),
+    "a part without its count": (REPORT, REPORT.replace(", unsigned long places_count", ""), "settings_report"),
+    "a narrower count": (REPORT, REPORT.replace("long settings_count", "settings_count"), "settings_report"),
+    "a signed count": (REPORT, REPORT.replace("unsigned long places_count", "long places_count"), "settings_report"),
+    "a count before its part": (REPORT, "u8 settings_report(unsigned long n, const u8 *settings, u64 *places, unsigned long m);", "settings_report"),
+    "a part of narrower places": (REPORT, REPORT.replace("u64 *places", "unsigned *places"), "settings_report"),
+    "narrower numbers of 64 bits": (LONGEST, LONGEST.replace("long long ", ""), "settings_report"),
+    "a wider refusal": (REPORT, REPORT.replace("u8 settings_report", "u16 settings_report"), "settings_report"),
     "a call missing": (LOCATE, "", "controller_locate"),
     "a call that is not exported": (LOCATE, LOCATE + " void controller_halt(void);", "the call controller_halt"),
 }
@@ -85,6 +97,11 @@ WRONG_SOURCES = {
     "a type that C cannot have": ("inner/src/part.rt", "count: u16", "count: &[u16]", "'&[u16]'"),
     "a struct that is nowhere": ("exports/src/lib.rt", "use inner::Part;", "", "Part"),
     "an array as a parameter": ("exports/src/lib.rt", "by: u32", "by: [u8; 4]", "C passes no arrays"),
+    "a part as a result": ("exports/src/lib.rt", "-> Part", "-> &[u8]", "'[u8]'"),
+    "a part of parts": ("exports/src/lib.rt", "by: u32", "by: &[&[u8]]", "'&[u8]'"),
+    "a part of arrays": ("exports/src/lib.rt", "by: u32", "by: &[[u8; 4]]", "'[[u8; 4]]'"),
+    "a part of enums": ("exports/src/lib.rt", "by: u32", "by: &[inner::Choice]", "turned: Choice"),
+    "a part that is not lent": ("exports/src/lib.rt", "by: u32", "by: [u8]", "'[u8]'"),
     "no exported call": ("exports/src/lib.rt", "#[no_mangle]", "", "exports no call"),
     "two structs of one name": ("exports/src/lib.rt", "pub struct Unseen { pub a: u8 }",
                                 '#[repr(C)] pub struct PART { pub a: u8 } #[no_mangle] pub extern "C" fn seen(p: PART) { }',
@@ -149,6 +166,19 @@ class Declarations(unittest.TestCase):
     def test_lent_structs_are_pointers(self):
         _shapes, calls = self.proved("exports/src/lib.rt", "turned(w: Whole", "turned(w: &mut Whole")
         self.assertEqual(calls[0].parameters[0][1].base, "struct whole *")
+
+    def test_lent_parts_are_a_pointer_and_a_count(self):
+        for words, base in (("&[u8]", "const proved_u8 *"), ("&mut [u64]", "proved_u64 *"), ("& [ Part ]", "const struct part *")):
+            with self.subTest(words):
+                shapes, calls = self.proved("exports/src/lib.rt", "by: u32", f"by: {words}")
+                whole, *part = [(name, laid.base, laid.size) for name, laid in calls[0].parameters]
+                self.assertEqual(whole, ("w", "struct whole", 24))
+                self.assertEqual(part, [("by", base, 8), ("by_count", "proved_usize", 8)])
+                self.assertEqual([shape.name for shape in shapes], ["part", "whole"])
+
+    def test_a_count_in_a_struct(self):
+        shapes, _calls = self.proved("inner/src/part.rt", "count: u16", "count: usize")
+        self.assertEqual([(shape.name, shape.size, shape.align) for shape in shapes], [("part", 16, 8), ("whole", 56, 8)])
 
     def test_wrong_sources_are_refused(self):
         for what, (file, old, new, words) in WRONG_SOURCES.items():

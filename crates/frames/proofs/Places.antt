@@ -1,8 +1,9 @@
 -- Where the scan is t character times after a reset: a place is told by the number of its line in its frame, its column and its field, and
 -- the first two by the number of its character time. Assumes nothing.
-use Prim.Native.Nat.{ℕ, _+_, _*_, _-_, _%_, _/_, _<_}
+use Prim.Native.Nat.{ℕ, _+_, _*_, _-_, _%_, _/_, _<_, _≤_}
 use mathlib.Core.Path.{_≡_, ap, sym, _∙_}
 use mathlib.Core.Bool.{Bool, true, false}
+use native.Mathlib.Nat.{mod-eq-of-lt}
 use native.Mathlib.Omega.{arith}
 use lib.Arith.{digits-lt, digits-div, digits-mod}
 use borrow.Author.Tests.{lt-ltb, le-ltb}
@@ -15,6 +16,21 @@ use Rattle.raster.specs.declared.scan.Scan.{Scan}
 use Rattle.frames.specs.Places.{rowLines, frameTimes, Region, Placed, scanOn, scanAt}
 use Rattle.frames.proofs.Placing.{Narrow, placed-top, placed-after}
 use Rattle.frames.proofs.Times.{lineNo, timeNo, time-after}
+
+-- a place of the first frame, by its line; a line of the rows, and an adjust line
+module _ (r : Registers) where
+  pub at-within : (t : ℕ) → t < frameTimes r → scanAt r t ≡ scanOn r (t / (reg r 0 + 1)) (t % (reg r 0 + 1)) (t / frameTimes r % 32)
+  unfolding scanAt
+  at-within t h = rw (mod-eq-of-lt h)
+
+  module _ (line column field : ℕ) where
+    pub on-rows : line < rowLines r → (scanOn r line column field .adjusting ≡ false) × (scanOn r line column field .row ≡ line / (reg r 9 + 1)) × (scanOn r line column field .column ≡ column)
+    unfolding scanOn if_then_else_
+    on-rows h = (rw (lt-ltb line (rowLines r) h), rw (lt-ltb line (rowLines r) h), rw (lt-ltb line (rowLines r) h))
+
+    pub on-adjust : rowLines r ≤ line → scanOn r line column field .adjusting ≡ true
+    unfolding scanOn if_then_else_
+    on-adjust h = rw (le-ltb line (rowLines r) h)
 
 -- all of a place but its column, start and field
 abbrev at : Registers → (line row base column field : ℕ) → Bool → Scan

@@ -5,20 +5,20 @@ use mathlib.Core.Bool.{Bool, true, false, _&&_, and-eq-true-iff}
 use mathlib.Core.List.{List, _++_}
 use native.Mathlib.Omega.{arith}
 use lib.Dec.{eqb, ltb, leb}
-use lib.ListN.{length, length-append}
+use lib.ListN.{length, getD, drop, length-append, List·getD-append}
 use borrow.Author.Tests.{lt-ltb, le-ltb, ltb-false, leb-true}
 use Rattle.basics.specs.Choice.{if_then_else_}
 use Rattle.basics.specs.Count.{count}
 use Rattle.basics.specs.Lay.{laidAt}
-use Rattle.basics.proofs.Counting.{each-last, length-each}
-use Rattle.basics.proofs.Laying.{laid-none, laid-laid, length-laid}
-use Rattle.setting.specs.Setting.{bytes}
+use Rattle.basics.proofs.Counting.{each-last, length-each, each-at}
+use Rattle.basics.proofs.Laying.{laid-none, laid-laid, laid-front, length-laid}
+use Rattle.setting.specs.Setting.{bytes, startedOf}
 use Rattle.tally.specs.Sums.{sum, greatest}
-use Rattle.tally.specs.Tally.{noTally, AtMost}
+use Rattle.tally.specs.Tally.{tallyOf, noTally, AtMost}
 use Rattle.tally.specs.declared.tally.Tally.{Tally}
-use Rattle.report.specs.Report.{most, row, rowOf, placesOf, totalsOf, tallyAt, talliesOf, settingsIn, reportOf, needed, areSettings, refusalOf, reportedOf}
+use Rattle.report.specs.Report.{most, row, rowOf, placesOf, totalsOf, settingAt, tallyAt, talliesOf, settingsIn, reportOf, needed, areSettings, refusalOf, reportedOf}
 use Rattle.report.specs.private.Joined.{joinedOf}
-use Rattle.report.proofs.Totals.{length-row, places-last, length-places, totals-last, joined-most}
+use Rattle.report.proofs.Totals.{length-row, places-last, length-places, first-of-row, totals-last, joined-most}
 
 -- What the loop has come to after k settings: their rows are laid, the totals are theirs, and since no row is above 235,794,944 (fourteen
 -- times the longest frame of any bytes) the totals of 64 are far from 2^64.
@@ -118,3 +118,16 @@ pub length-report : (given : List ℕ) → length (reportOf given) ≡ needed gi
 unfolding reportOf
 length-report given =
     simp (length-append, length-row, length-first given) (omega arith)
+
+-- the first place of a setting's row has its picture total
+pub first-place : (given out : List ℕ) → refusalOf given (length out) ≡ 0 → (k : ℕ) → k < settingsIn given
+    → getD (reportedOf given out) (row * k) 0 ≡ tallyOf (startedOf (settingAt given k)) .picture
+unfolding reportOf tallyAt
+first-place given out z k h =
+    let l = talliesOf given (settingsIn given) in
+    let long : length l ≡ settingsIn given = length-each (tallyAt given) (settingsIn given) in
+    ap (λ (places : List ℕ). getD places (row * k) 0) (done given out z .laid ∙ laid-front out (reportOf given))
+    ∙ List·getD-append (reportOf given) (drop (length (reportOf given)) out) 0 (row * k) (omega (arith, length-report given))
+    ∙ List·getD-append (placesOf l) (rowOf (totalsOf l)) 0 (row * k) (omega (arith, length-first given (settingsIn given)))
+    ∙ first-of-row l k (omega arith)
+    ∙ ap (λ (j : Tally). j .picture) (each-at (tallyAt given) noTally (settingsIn given) k h)

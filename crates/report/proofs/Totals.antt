@@ -1,12 +1,13 @@
 -- Laws of rows and of their totals. Assumes nothing.
-use Prim.Native.Nat.{ℕ, suc, _+_, _*_, _≤_, max}
+use Prim.Native.Nat.{ℕ, zero, suc, _+_, _*_, _<_, _≤_, max}
 use mathlib.Core.Path.{_≡_, refl, ap, sym, _∙_}
 use mathlib.Core.List.{List, [], _∷_, _++_, map, map-append, append-assoc, append-nil}
 use native.Mathlib.Omega.{arith}
-use lib.ListN.{length, set, length-append}
+use lib.ListN.{length, getD, set, length-append}
+use lib.Seq.{getD-append-add}
 use Rattle.basics.specs.Lay.{laidAt}
 use Rattle.basics.proofs.Laying.{laid-sets}
-use Rattle.tally.specs.Tally.{AtMost}
+use Rattle.tally.specs.Tally.{noTally, AtMost}
 use Rattle.tally.specs.declared.tally.Tally.{Tally}
 use Rattle.tally.proofs.Summing.{sum-last, greatest-last}
 use Rattle.report.specs.Report.{row, rowOf, placesOf, totalsOf}
@@ -40,6 +41,15 @@ pub length-places : (l : List Tally) → length (placesOf l) ≡ row * length l
 unfolding placesOf
 length-places [] = refl
 length-places (k ∷ l) = simp (length-append, length-row) (omega (arith, length-places l))
+
+-- the first place of the k-th row
+pub first-of-row : (l : List Tally) (k : ℕ) → k < length l → getD (placesOf l) (row * k) 0 ≡ getD l k noTally .picture
+unfolding placesOf rowOf
+first-of-row [] k h = absurd (omega arith)
+first-of-row (j ∷ l) zero h = refl
+first-of-row (j ∷ l) (suc k) h =
+    let e : row * suc k ≡ length (rowOf j) + row * k = omega arith in
+    rw e (getD-append-add (rowOf j) (placesOf l) (row * k) 0 ∙ first-of-row l k (omega arith))
 
 pub totals-last : (l : List Tally) (k : Tally) → totalsOf (l ++ (k ∷ [])) ≡ joinedOf (totalsOf l) k
 unfolding totalsOf joinedOf

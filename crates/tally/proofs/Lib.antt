@@ -1,2 +1,3 @@
 pub mod Summing
 pub mod Passing
+pub mod Totals

@@ -1,8 +1,9 @@
 """What a frame does, in numbers, for each setting of a file."""
-from ..counting import COLUMNS, PROGRAM, rows_of, table, why_refused
+from compared import COUNTS
+from records import MOST_SETTINGS, SETTING_BYTES
+from ..counting import COLUMNS, rows_of, table, why_refused
 from ..files import read_settings
 from ..proved import printed
-from ..settings import MOST_SETTINGS, SETTING_BYTES
 from ..sheets import SHAPES, bytes_of
 from ..terminal import Paper, tell
 from .command import ANY_OTHER_FILE, Command, add_file, in_columns
@@ -49,7 +50,7 @@ def add_arguments(parser):
 def run(asked):
     """The table, or the program's own lines, with a word on standard error where these are a refusal."""
     settings = read_settings(asked.file, asked.form)
-    text = printed(PROGRAM, bytes_of(settings))
+    text = printed(COUNTS.name, bytes_of(settings))
     if not asked.plain:
         return table(settings, text, Paper.of_output())
     if not rows_of(text, settings):
@@ -57,4 +58,4 @@ def run(asked):
     return text
 
 
-COMMAND = Command(PROGRAM, "count what a frame does, for settings", ABOUT, MORE, add_arguments, run)
+COMMAND = Command(COUNTS.name, "count what a frame does, for settings", ABOUT, MORE, add_arguments, run)
