@@ -257,7 +257,7 @@ def dealt():
 
 
 DEAL = dealt()
-# A batch that takes the place of the one with its seed and number. Every whole run has the fixed seed, so it has the largest frame once.
+# A batch that takes the place of the one with its seed and number. Every whole run has the fixed seed, and so the largest frame once.
 ONCE = {(FIXED_SEED, 1 + DEAL.index((settings.any_settings, COUNTS))): (settings.largest_frame, COUNTS)}
 SORT_NAMES = [name_of(sort) for sort in (*(sort for shares in SHARES.values() for sort in shares), settings.largest_frame)]
 

@@ -55,10 +55,10 @@ def wrapping_setting(rng):
     """A start so high that addresses wrap: at the last address, or by rows at the last row and at the end of each."""
     setting = small_setting(rng)
     setting[8] = setting[8] & ~4 | rng.choice((0, 4))
-    near = ADDRESSES - rng.randint(1, 40)
-    setting[12], setting[13] = divmod(near, 256)
     if setting[8] & 4:
         setting[12], setting[13] = 63 - rng.randint(0, 4), 255 - rng.randint(0, 14)
+    else:
+        setting[12], setting[13] = divmod(ADDRESSES - rng.randint(1, 40), 256)
     put_cursor(setting, *some_cell(rng, setting))
     return setting
 
@@ -78,7 +78,8 @@ def outside_setting(rng):
     setting = small_setting(rng)
     rows, columns = picture_size(setting)
     setting[10], setting[11] = 0, 31
-    put_cursor(setting, *rng.choice(((0, columns), (rows, 0), (rows - 1, columns), (-1, 0), (rng.randrange(128), rng.randrange(256)))))
+    anywhere = rng.randrange(128), rng.randrange(256)
+    put_cursor(setting, *rng.choice(((0, columns), (rows, 0), (rows - 1, columns), (-1, 0), anywhere)))
     return setting
 
 
@@ -166,7 +167,8 @@ def alike_bytes(rng):
 
 
 SMALL_MAKERS = (
-    small_setting, small_setting, late_setting, wrapping_setting, cursor_setting, outside_setting, sync_setting, beyond_setting, wide_setting,
+    small_setting, small_setting, late_setting, wrapping_setting, cursor_setting, outside_setting, sync_setting, beyond_setting,
+    wide_setting,
 )
 
 

@@ -1,4 +1,4 @@
-"""Texts that may say only one thing: the forms of the laws, what it means that a contract states something, and the two programs.
+"""Texts that may say only one thing: the forms of the laws, what it means that a contract states something, and the programs.
 
 Nothing else notices when one of these comes to say less: the laws' and the promises' types only name the forms, and the programs' own code
 has no contract. So each is held to its words here, comments and white space apart, and is changed here and there together.
@@ -68,8 +68,15 @@ fn main() {
 }
 """
 
-# The programs whose own code decides nothing, each by its words. They differ in the function that makes the text, and in its crate.
-PROGRAMS = {"listing": LISTING, "rooms": LISTING.replace("lister::list(", "lister::room(").replace("lister::", "rooms_text::")}
+
+
+def program_of(crate, function):
+    """A program by its words, as the listing is; it differs in the function that makes the text, and in its crate."""
+    return LISTING.replace("lister::list(", f"lister::{function}(").replace("lister::", f"{crate}::")
+
+
+# The programs whose own code decides nothing.
+PROGRAMS = {"listing": LISTING, "rooms": program_of("rooms_text", "room"), "counts": program_of("report_text", "tell")}
 
 
 def definitions_fault(text, due):

@@ -20,13 +20,16 @@ SUMS = {
     "crates/frames/specs/Calls.antt": "f9246236986c1748",
     "crates/frames/specs/Frames.antt": "cbdd1ca4dcdb0b61",
     "crates/frames/specs/Places.antt": "a8248c68dd4e85b2",
+    "crates/picture_total/specs/Picture.antt": "4967dc4eb50a709a",
     "crates/raster/specs/Widths.antt": "91836725749cadd3",
     "crates/record/specs/Refusals.antt": "73e0ffde3f3569b6",
     "crates/refresh_and_pictures/specs/Picture.antt": "c38d3515d934dd97",
     "crates/refresh_and_pictures/specs/Refresh.antt": "1e4f3c3808ec21aa",
     "crates/replay/specs/Run.antt": "af9cc5c81c5527a6",
     "crates/settled/specs/Cases.antt": "f10685c6f7dabc93",
+    "crates/setting/specs/Writes.antt": "96ac18941edad5fc",
     "crates/settled/specs/Premises.antt": "4c4ff8cdc9c103ff",
+    "crates/text/specs/Decimal.antt": "d2e0cb12bbe73567",
 }
 
 

@@ -1,7 +1,7 @@
 """The programs under comparison: each is proved, and the second program does the same in its part.
 
-A further one is a module here with one object, which is named in PROGRAMS. The sorts of batches that it reads have their shares
-in tools/batches, under that object."""
+A further one is a module here with one object, which is named in PROGRAMS, and among the REPLAYS where it replays records. The sorts
+of batches that it reads have their shares in tools/batches, under that object."""
 from .counts import COUNTS
 from .listing import LISTING
 from .program import NotReadable

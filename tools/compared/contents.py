@@ -11,7 +11,7 @@ GOOD_SETTINGS = bytes.fromhex(
 
 
 def contents(length, what, good):
-    """Inputs of one length: zeros, good ones over and over, with words for them, and bytes without any plan; of no length one alone."""
+    """Inputs of one length: zeros, a good one over and over, with words for it, and bytes without any plan; of no length one alone."""
     plan = random.Random(length)
     yield "zeros", bytes(length)
     if length:

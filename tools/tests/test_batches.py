@@ -87,11 +87,13 @@ SHOWN = {
     "display enable late": lambda r: r[8] & 16,
     "the cursor late": lambda r: r[8] & 32,
     "display enable late where the frame ends in the picture": lambda r: r[8] & 16 and ends_in_picture(r),
-    "the cursor late where it is at the frame's last character": lambda r: r[8] & 32 and ends_in_picture(r) and cursor_cells(r)[-1:] == [(r[4], r[0])],
+    "the cursor late where it is at the frame's last character":
+        lambda r: r[8] & 32 and ends_in_picture(r) and (r[4], r[0]) in cursor_cells(r),
     "addressing by rows": lambda r: r[8] & 4,
     "addresses that wrap": lambda r: not r[8] & 4 and wraps(r),
     "addresses by rows that wrap": lambda r: r[8] & 4 and wraps(r),
-    **{f"a cursor in the picture with blink {blink}": lambda r, blink=blink: r[10] >> 5 == blink and cursor_cells(r) for blink in range(4)},
+    **{f"a cursor in the picture with blink {blink}":
+       lambda r, blink=blink: r[10] >> 5 == blink and cursor_cells(r) for blink in range(4)},
     "a cursor on some of a row's lines": lambda r: cursor_cells(r) and 0 < r[10] % 32 <= r[11] < r[9],
     "a cursor on no line": lambda r: cursor_cells(r) and r[10] % 32 > r[11],
     "a cursor outside the picture": lambda r: not cursor_cells(r),
@@ -154,8 +156,26 @@ class Settings(unittest.TestCase):
                 self.assertGreaterEqual(lengths.count(length), 2)
 
 
+# What most settings of a making show.
+MOSTLY = {
+    settings.middle_setting: lambda r: 3_000 < frame_length(r) < 100_000,
+    settings.late_setting: lambda r: r[8] & 48,
+    settings.wrapping_setting: wraps,
+    settings.cursor_setting: cursor_cells,
+    settings.outside_setting: lambda r: not cursor_cells(r),
+    settings.sync_setting: lambda r: r[3] % 16 > r[0] or (r[3] >> 4 or 16) > (r[4] + 1) * (r[9] + 1) + r[5],
+    settings.beyond_setting: lambda r: r[1] > r[0] + 1 or r[6] > r[4] + 1,
+}
+
+
 class SortsOfSettings(unittest.TestCase):
     """Each sort by itself, many times."""
+
+    def test_most_settings_of_a_making_show_what_it_is_for(self):
+        for make, is_shown in MOSTLY.items():
+            with self.subTest(make.__name__):
+                made = [registers_of(settings.packed(make(random.Random(seed)))) for seed in range(60)]
+                self.assertGreater(sum(bool(is_shown(registers)) for registers in made), 30)
 
     def test_what_is_refused_and_what_is_not(self):
         for sort in (*SHARES[COUNTS], settings.largest_frame):

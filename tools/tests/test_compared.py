@@ -125,8 +125,9 @@ class Outputs(unittest.TestCase):
         self.assertEqual(len(COUNTS.read(64 * "0 0 0 0 1 0 0\n" + "total 0 0 0 0 64 0 0\n").rows), 64)
 
     def test_a_report_with_another_line(self):
-        self.assertNotReadable(COUNTS, COUNTED.replace("1 0 20", "1 0 020"), COUNTED.replace("1 0 20", "1  0 20"), COUNTED.replace("32 3\n0", "32\n0"),
-                               COUNTED.replace("8 8 1", "8 8 -1", 1), COUNTED.replace("\n0", "\n\n0"), "another line\n" + COUNTED, COUNTED + COUNTED)
+        self.assertNotReadable(COUNTS, COUNTED.replace("1 0 20", "1 0 020"), COUNTED.replace("1 0 20", "1  0 20"),
+                               COUNTED.replace("32 3\n0", "32\n0"), COUNTED.replace("8 8 1", "8 8 -1", 1),
+                               COUNTED.replace("\n0", "\n\n0"), "another line\n" + COUNTED, COUNTED + COUNTED)
 
     def test_a_report_with_too_many_rows(self):
         self.assertNotReadable(COUNTS, 65 * "0 0 0 0 1 0 0\n" + "total 0 0 0 0 65 0 0\n")
@@ -197,12 +198,14 @@ class Differences(unittest.TestCase):
 
     def test_a_report_beside_a_refusal(self):
         told = self.told(COUNTS, SETTINGS, COUNTED, "refused 10\n")
-        self.assertEqual(told[:3], [f"first difference at setting 1, {SETTING_A}:", "  proved: 8 8 1 0 20 32 3", "  second: refused 10"])
+        self.assertEqual(told[:3],
+                         [f"first difference at setting 1, {SETTING_A}:", "  proved: 8 8 1 0 20 32 3", "  second: refused 10"])
         self.assertEqual(told[-2:], ["whole output of the second program:", "  refused 10"])
 
     def test_the_same_wrong_totals(self):
         wrong = COUNTED.replace("0 21", "0 22")
-        self.assertEqual(self.told(COUNTS, SETTINGS, wrong, wrong)[0], "both programs print the same, and it is no output of counts:")
+        self.assertEqual(self.told(COUNTS, SETTINGS, wrong, wrong)[0],
+                         "both programs print the same, and it is no output of counts:")
 
     def test_the_same_output_that_is_none(self):
         self.assertEqual(self.told(LISTING, BATCH, "another\n", "another\n"),

@@ -92,7 +92,8 @@ class Reports(unittest.TestCase):
         self.assertEqual(refusals[None], 2)
 
     def test_each_number_of_places_comes_with_and_without_settings(self):
-        off = [(int.from_bytes(batch.input[:2], "big") - needed(batch.input[2:]), are_settings(batch.input[2:])) for batch in all_trials()]
+        off = [(int.from_bytes(batch.input[:2], "big") - needed(batch.input[2:]), are_settings(batch.input[2:]))
+               for batch in all_trials()]
         for one in ((-1, True), (0, True), (1, True), (-1, False), (0, False), (1, False)):
             self.assertGreaterEqual(off.count(one), 3)
 
@@ -112,19 +113,21 @@ class Reports(unittest.TestCase):
         self.assertEqual(PLACES.read("no room\n"), (None, []))
 
     def test_what_is_no_report(self):
-        for text in ("", "0", "9\n", "11\n" + 16 * "0" + "\n", "0\n" + 15 * "0" + "\n", "10\na setting was written to\n", "0\n" + 16 * "A" + "\n"):
+        for text in ("", "0", "9\n", "11\n" + 16 * "0" + "\n", "0\n" + 15 * "0" + "\n", "0\n" + 16 * "A" + "\n",
+                     "10\na setting was written to\n"):
             with self.subTest(text), self.assertRaises(NotReadable):
                 PLACES.read(text)
 
     def test_the_places_of_lines(self):
         given = in_places(22, 2 * SETTING)
         self.assertEqual([PLACES.place_of_line(given, number) for number in (0, 7, 8, 15, 22)],
-                         ["the line of the refusal", f"place 7, of setting 1, {SETTING.hex()}", f"place 8, of setting 2, {SETTING.hex()}",
-                          "place 15, of the totals", "place 22, of what follows the totals"])
+                         ["the line of the refusal", f"place 7, of setting 1, {SETTING.hex()}",
+                          f"place 8, of setting 2, {SETTING.hex()}", "place 15, of the totals", "place 22, of what follows the totals"])
         self.assertEqual(PLACES.place_of_line(given[:-1], 9), "place 9")
 
     def test_what_a_message_shows(self):
-        self.assertEqual(PLACES.told_of_input(in_places(13, SETTING)), ["places, two bytes: 000d", "settings in hex:", f"  {SETTING.hex()}"])
+        self.assertEqual(PLACES.told_of_input(in_places(13, SETTING)),
+                         ["places, two bytes: 000d", "settings in hex:", f"  {SETTING.hex()}"])
         self.assertEqual(PLACES.told_of_input(b""), ["places, two bytes: (none)", "settings in hex:", "  (no byte)"])
 
 

@@ -89,8 +89,10 @@ class Told(unittest.TestCase):
         self.assertEqual(MUTANTS["told"](Verdict(self.CHANGE, BY_NEITHER, None)), "NEITHER")
 
     def test_what_is_wrong_about_a_change(self):
-        for by, change, wrong in ((BY_COMPARISON, self.CHANGE, None), (BY_TESTS, self.CHANGE, None), (BY_NEITHER, self.CHANGE, "nobody sees it"),
-                                  (BY_COMPARISON, self.CHANGE._replace(tests_only="a reason"), "the table says that no batch can show it")):
+        hidden = self.CHANGE._replace(tests_only="a reason")
+        for by, change, wrong in ((BY_COMPARISON, self.CHANGE, None), (BY_TESTS, self.CHANGE, None), (BY_TESTS, hidden, None),
+                                  (BY_NEITHER, self.CHANGE, "nobody sees it"),
+                                  (BY_COMPARISON, hidden, "the table says that no batch can show it")):
             self.assertEqual(MUTANTS["mistake"](Verdict(change, by, None)), wrong)
 
 

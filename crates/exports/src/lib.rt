@@ -1,7 +1,6 @@
 // The calls that programs in other languages link, each by value and over plain data: the controller's, the locator's answer as numbers,
 // the display counter, and the report on a batch of settings. include/vorstelpijp.h declares them for C.
 ghost use mathlib.Core.Path.{_≡_};
-ghost use lib.ListN.{length};
 ghost use Rattle.controller.specs.Chip.{freshOf, resetOf, writeOf, clockOf, strikeOf};
 ghost use Rattle.controller.specs.Pins.{outputsOf};
 ghost use Rattle.controller.specs.Reads.{readOf};
@@ -117,7 +116,7 @@ pub extern "C" fn display_fetches(bits: u16, from: Display, n: u16) -> Display
 // The report on a batch of settings, into places of 64 bits: 0, or the number of the refusal.
 #[no_mangle]
 pub extern "C" fn settings_report(settings: &[u8], places: &mut [u64]) -> u8
-    ensures said { λ r. ⌜ r ≡ refusalOf (now (settings .entry)) (length (now (places .entry))) ⌝ }
+    ensures said { λ r. ⌜ r ≡ refusalOf (now (settings .entry)) (now (places .entry)) ⌝ }
     ensures laid { λ r. ⌜ now (places .exit) ≡ reportedOf (now (settings .entry)) (now (places .entry)) ⌝ }
     ensures kept { λ r. ⌜ now (settings .exit) ≡ now (settings .entry) ⌝ }
 {

@@ -38,12 +38,19 @@ use Rattle.controller.proofs.chip.Controller.reset.Reads as controller·reset
 use Rattle.controller.proofs.chip.Controller.write.Reads as controller·write
 use Rattle.controller.proofs.chip.Controller.clock.Reads as controller·clock
 use Rattle.controller.proofs.chip.Controller.strike.Reads as controller·strike
+use Rattle.controller.proofs.pin.Reads as controller·pin
 use Rattle.controller.proofs.chip.Controller.outputs.Reads as controller·outputs
 use Rattle.controller.proofs.chip.Controller.read.Reads as controller·read
 use Rattle.controller.proofs.kept.Reads as controller·kept
 use Rattle.locator.proofs.answer.Located.refusal.Reads as locator·refusal
 use Rattle.locator.proofs.answer.Located.cell.Reads as locator·cell
 use Rattle.locator.proofs.locate.Reads as locator·locate
+use Rattle.setting.proofs.registers.Reads as setting·registers
+use Rattle.setting.proofs.start.Reads as setting·start
+use Rattle.tally.proofs.count_frame.Reads as tally·count-frame
+use Rattle.tally.proofs.greater.Reads as tally·greater
+use Rattle.tally.proofs.tally.Tally.none.Reads as tally·none
+use Rattle.report.proofs.report.Reads as report·report
 use Rattle.control.proofs.bits.Control.clear.Reads as control·clear
 use Rattle.control.proofs.bits.Control.mode.Reads as control·mode
 use Rattle.control.proofs.bits.Control.f.Reads as control·f
@@ -81,6 +88,7 @@ use Rattle.alone.proofs.on_reset.Reads as alone·on-reset
 use Rattle.alone.proofs.write.Reads as alone·write
 use Rattle.alone.proofs.clock.Reads as alone·clock
 use Rattle.alone.proofs.strike.Reads as alone·strike
+use Rattle.text.proofs.put_decimal.Reads as text·put-decimal
 use Rattle.text.proofs.put_hex.Reads as text·put-hex
 use Rattle.text.proofs.put_lines.Reads as text·put-lines
 use Rattle.text.proofs.said.Reads as text·said
@@ -94,6 +102,7 @@ use Rattle.replay.proofs.replay.Reads as replay·replay
 use Rattle.batch.proofs.replay_fresh.Reads as batch·replay-fresh
 use Rattle.lister.proofs.list.Reads as lister·list
 use Rattle.rooms_text.proofs.room.Reads as rooms-text·room
+use Rattle.report_text.proofs.tell.Reads as report-text·tell
 use Rattle.exports.proofs.controller_fresh.Reads as exports·controller-fresh
 use Rattle.exports.proofs.controller_reset.Reads as exports·controller-reset
 use Rattle.exports.proofs.controller_write.Reads as exports·controller-write
@@ -104,6 +113,7 @@ use Rattle.exports.proofs.controller_strike.Reads as exports·controller-strike
 use Rattle.exports.proofs.controller_newest.Reads as exports·controller-newest
 use Rattle.exports.proofs.controller_locate.Reads as exports·controller-locate
 use Rattle.exports.proofs.display_fetches.Reads as exports·display-fetches
+use Rattle.exports.proofs.settings_report.Reads as exports·settings-report
 
 pub basics-number : OneAnswer basics·number.Post (λ κs r s. r)
 basics-number κs a x y s t p q = one-answer p q
@@ -204,6 +214,9 @@ controller-clock κs a x y s t p q = one-answer p q
 pub controller-strike : OneAnswer controller·strike.Post (λ κs r s. r)
 controller-strike κs a x y s t p q = one-answer p q
 
+pub controller-pin : OneAnswer controller·pin.Post (λ κs r s. r)
+controller-pin κs a x y s t p q = one-answer p q
+
 pub controller-outputs : OneAnswer controller·outputs.Post (λ κs r s. r)
 controller-outputs κs a x y s t p q = one-answer p q
 
@@ -221,6 +234,24 @@ locator-cell κs a x y s t p q = one-answer p q
 
 pub locator-locate : OneAnswer locator·locate.Post (λ κs r s. r)
 locator-locate κs a x y s t p q = one-answer p q
+
+pub setting-registers : OneAnswer setting·registers.Post (λ κs r s. r beside now (s .0))
+setting-registers κs a x y s t p q = one-answer (p .0) (q .0) and one-answer (p .1) (q .1)
+
+pub setting-start : OneAnswer setting·start.Post (λ κs r s. r beside now (s .0))
+setting-start κs a x y s t p q = one-answer (p .0) (q .0) and one-answer (p .1) (q .1)
+
+pub tally-count-frame : OneAnswer tally·count-frame.Post (λ κs r s. r)
+tally-count-frame κs a x y s t p q = one-answer (p .0) (q .0)
+
+pub tally-greater : OneAnswer tally·greater.Post (λ κs r s. r)
+tally-greater κs a x y s t p q = one-answer p q
+
+pub tally-none : OneAnswer tally·none.Post (λ κs r s. r)
+tally-none κs a x y s t p q = one-answer p q
+
+pub report-report : OneAnswer report·report.Post (λ κs r s. r beside now (s .1 .0) beside now (s .0))
+report-report κs a x y s t p q = one-answer (p .0) (q .0) and one-answer (p .1 .0) (q .1 .0) and one-answer (p .1 .1) (q .1 .1)
 
 pub control-clear : OneAnswer control·clear.Post (λ κs r s. r)
 control-clear κs a x y s t p q = one-answer p q
@@ -333,6 +364,9 @@ alone-clock κs a x y s t p q = one-answer p q
 pub alone-strike : OneAnswer alone·strike.Post (λ κs r s. r)
 alone-strike κs a x y s t p q = one-answer p q
 
+pub text-put-decimal : OneAnswer text·put-decimal.Post (λ κs r s. r beside now (s .0))
+text-put-decimal κs a x y s t p q = one-answer (p .0) (q .0) and one-answer (p .1 .0) (q .1 .0)
+
 pub text-put-hex : OneAnswer text·put-hex.Post (λ κs r s. r beside now (s .0) beside now (s .1 .1 .0))
 text-put-hex κs a x y s t p q = one-answer (p .0) (q .0) and one-answer (p .1 .0) (q .1 .0) and one-answer (p .1 .1 .0) (q .1 .1 .0)
 
@@ -372,6 +406,9 @@ lister-list κs a x y s t p q = one-answer (p .1 .0) (q .1 .0) and one-answer (p
 pub rooms-text-room : OneAnswer rooms-text·room.Post (λ κs r s. r beside now (s .1 .0) beside now (s .0))
 rooms-text-room κs a x y s t p q = one-answer (p .1 .0) (q .1 .0) and one-answer (p .1 .1 .0) (q .1 .1 .0) and one-answer (p .1 .1 .1 .1) (q .1 .1 .1 .1)
 
+pub report-text-tell : OneAnswer report-text·tell.Post (λ κs r s. r beside now (s .1 .0) beside now (s .0))
+report-text-tell κs a x y s t p q = one-answer (p .1 .0) (q .1 .0) and one-answer (p .1 .1 .0) (q .1 .1 .0) and one-answer (p .1 .1 .1 .1) (q .1 .1 .1 .1)
+
 pub exports-controller-fresh : OneAnswer exports·controller-fresh.Post (λ κs r s. r)
 exports-controller-fresh κs a x y s t p q = one-answer p q
 
@@ -401,3 +438,6 @@ exports-controller-locate κs a x y s t p q = one-answer p q
 
 pub exports-display-fetches : OneAnswer exports·display-fetches.Post (λ κs r s. r)
 exports-display-fetches κs a x y s t p q = one-answer p q
+
+pub exports-settings-report : OneAnswer exports·settings-report.Post (λ κs r s. r beside now (s .1 .0) beside now (s .0))
+exports-settings-report κs a x y s t p q = one-answer (p .0) (q .0) and one-answer (p .1 .0) (q .1 .0) and one-answer (p .1 .1) (q .1 .1)

@@ -4,7 +4,7 @@ use Prim.Native.Nat.{ℕ, _+_, _*_, _<_}
 use mathlib.Core.Path.{_≡_}
 use mathlib.Core.Bool.{true}
 use mathlib.Core.List.{List}
-use lib.ListN.{length, getD}
+use lib.ListN.{getD}
 use Rattle.raster.specs.Registers.{reg}
 use Rattle.raster.specs.declared.registers.Registers.{Registers}
 use Rattle.frames.specs.Frames.{beginsAt}
@@ -30,4 +30,4 @@ pub record Counted (given : List ℕ) : Type 0 where
 -- In a report, the first place of each setting's row.
 abbrev pub Reported : List ℕ → List ℕ → Type 0
 Reported given out =
-    refusalOf given (length out) ≡ 0 → (k : ℕ) → k < settingsIn given → getD (reportedOf given out) (row * k) 0 ≡ pictureTimes (settingOf (settingAt given k))
+    refusalOf given out ≡ 0 → (k : ℕ) → k < settingsIn given → getD (reportedOf given out) (row * k) 0 ≡ pictureTimes (settingOf (settingAt given k))

@@ -43,6 +43,16 @@ use Rattle.every_replay.proofs.Parts.{runs}
 use Rattle.text.specs.Speech.{saidOf}
 use Rattle.lister.specs.Listing.{listingOf}
 use Rattle.rooms_text.specs.Rooms.{roomTextOf}
+use Rattle.setting.specs.Setting.{settingOf, startedOf}
+use Rattle.setting.specs.Writes.{ByWrites}
+use Rattle.setting.proofs.Writes.{by-writes}
+use Rattle.tally.specs.Tally.{tallyOf}
+use Rattle.report.specs.Report.{refusalOf, reportedOf}
+use Rattle.picture_total.specs.Picture.{Counted, Reported}
+use Rattle.picture_total.proofs.Picture.{counted, reported}
+use Rattle.text.specs.Decimal.{DigitsName}
+use Rattle.text.proofs.Reading.{digits-name}
+use Rattle.report_text.specs.Text.{reportTextOf}
 use Rattle.settled.specs.Cases.{Settled}
 use Rattle.settled.specs.Premises.{Premises}
 use Rattle.settled.proofs.Table.{table}
@@ -69,6 +79,11 @@ use Rattle.multiplexer.proofs.chip.Multiplexer.bus.Reads as multiplexer·bus
 use Rattle.multiplexer.proofs.chip.Multiplexer.fetches.Reads as multiplexer·fetches
 use Rattle.multiplexer.proofs.chip.Multiplexer.levels.Reads as multiplexer·levels
 use Rattle.locator.proofs.locate.Reads as locator·locate
+use Rattle.setting.proofs.registers.Reads as setting·registers
+use Rattle.setting.proofs.start.Reads as setting·start
+use Rattle.tally.proofs.count_frame.Reads as tally·count-frame
+use Rattle.report.proofs.report.Reads as report·report
+use Rattle.report_text.proofs.tell.Reads as report-text·tell
 use Rattle.promises.specs.States.{States}
 
 -- ---- demand 1
@@ -187,3 +202,35 @@ cases-settled = table
 
 pub premises-met : Premises
 premises-met = premises
+
+-- ---- what a frame does, counted
+
+pub setting-cut : States setting·registers.Post (λ κs a r s. (r ≡ settingOf (now (a .0))) × (now (s .0) ≡ now (a .0)))
+setting-cut κs a r s p = p
+
+pub setting-started : States setting·start.Post (λ κs a r s. (r ≡ startedOf (now (a .0))) × (now (s .0) ≡ now (a .0)))
+setting-started κs a r s p = p
+
+pub setting-by-writes : (given : List ℕ) → ByWrites given
+setting-by-writes = by-writes
+
+pub frame-counted : States tally·count-frame.Post (λ κs a r s. r ≡ tallyOf (a .0))
+frame-counted κs a r s p = p .0
+
+pub picture-counted : (given : List ℕ) → Counted given
+picture-counted = counted
+
+pub report-said : States report·report.Post (λ κs a r s. r ≡ refusalOf (now (a .0)) (now (a .1 .0)))
+report-said κs a r s p = p .0
+
+pub report-laid : States report·report.Post (λ κs a r s. (now (s .1 .0) ≡ reportedOf (now (a .0)) (now (a .1 .0))) × (now (s .0) ≡ now (a .0)))
+report-laid κs a r s p = p .1
+
+pub report-pictures : (given out : List ℕ) → Reported given out
+report-pictures = reported
+
+pub decimal-names : DigitsName
+decimal-names = digits-name
+
+pub report-text : States report-text·tell.Post (λ κs a r s. (r ≡ length (reportTextOf (now (a .0)))) × (now (s .1 .0) ≡ laidAt (now (a .1 .0)) 0 (reportTextOf (now (a .0)))))
+report-text κs a r s p = (p .1 .0, p .1 .1 .0)

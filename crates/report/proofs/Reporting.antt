@@ -56,19 +56,19 @@ module _ (given out₀ : List ℕ) where
       }
 
   -- the three ways in which the call ends
-  pub ended-10 : areSettings (length given) ≡ false → (10 ≡ refusalOf given (length out₀)) × ((out₀ ≡ reportedOf given out₀) × (given ≡ given))
+  pub ended-10 : areSettings (length given) ≡ false → (10 ≡ refusalOf given out₀) × ((out₀ ≡ reportedOf given out₀) × (given ≡ given))
   unfolding refusalOf reportedOf if_then_else_
   ended-10 w = (rw w, (rw w, refl))
 
   pub ended-11 : areSettings (length given) ≡ true → length out₀ < needed given
-      → (11 ≡ refusalOf given (length out₀)) × ((out₀ ≡ reportedOf given out₀) × (given ≡ given))
+      → (11 ≡ refusalOf given out₀) × ((out₀ ≡ reportedOf given out₀) × (given ≡ given))
   unfolding refusalOf reportedOf if_then_else_
   ended-11 w h = let q : ltb (length out₀) (needed given) ≡ true = lt-ltb _ _ h in (rw (w, q), (rw (w, q), refl))
 
   pub ended-0 : (mid out : List ℕ) (total : Tally) → areSettings (length given) ≡ true → needed given ≤ length out₀
       → mid ≡ laidAt out₀ 0 (placesOf (talliesOf given (settingsIn given))) → total ≡ totalsOf (talliesOf given (settingsIn given))
       → out ≡ laidAt mid (row * settingsIn given) (rowOf total)
-      → (0 ≡ refusalOf given (length out₀)) × ((out ≡ reportedOf given out₀) × (given ≡ given))
+      → (0 ≡ refusalOf given out₀) × ((out ≡ reportedOf given out₀) × (given ≡ given))
   unfolding refusalOf reportedOf reportOf if_then_else_
   ended-0 mid out total w h em et eo =
       let q : ltb (length out₀) (needed given) ≡ false = le-ltb _ _ h in
@@ -92,7 +92,7 @@ pub record Done (given out : List ℕ) : Type 0 where
   pub room : needed given ≤ length out
   pub laid : reportedOf given out ≡ laidAt out 0 (reportOf given)
 
-pub done : (given out : List ℕ) → refusalOf given (length out) ≡ 0 → Done given out
+pub done : (given out : List ℕ) → refusalOf given out ≡ 0 → Done given out
 unfolding refusalOf reportedOf if_then_else_
 done given out = go (areSettings (length given)) refl (ltb (length out) (needed given)) refl
   where
@@ -104,15 +104,15 @@ done given out = go (areSettings (length given)) refl (ltb (length out) (needed 
     go false e f g z = absurd (omega arith)
 
 -- and any other where there are places enough for every report: they are not
-pub not-settings : (given : List ℕ) (places : ℕ) → row * (most + 1) ≤ places → (refusalOf given places ≡ 0 → ⊥) → areSettings (length given) ≡ false
+pub not-settings : (given out : List ℕ) → row * (most + 1) ≤ length out → (refusalOf given out ≡ 0 → ⊥) → areSettings (length given) ≡ false
 unfolding refusalOf if_then_else_
-not-settings given places h n = go (areSettings (length given)) refl
+not-settings given out h n = go (areSettings (length given)) refl
   where
     go : (b : Bool) → areSettings (length given) ≡ b → areSettings (length given) ≡ false
     go false e = e
     go true e =
         let few = settings-few (length given) e in
-        absurd (n (rw (e, le-ltb places (needed given) (omega arith))))
+        absurd (n (rw (e, le-ltb (length out) (needed given) (omega arith))))
 
 pub length-report : (given : List ℕ) → length (reportOf given) ≡ needed given
 unfolding reportOf
@@ -120,7 +120,7 @@ length-report given =
     simp (length-append, length-row, length-first given) (omega arith)
 
 -- the first place of a setting's row has its picture total
-pub first-place : (given out : List ℕ) → refusalOf given (length out) ≡ 0 → (k : ℕ) → k < settingsIn given
+pub first-place : (given out : List ℕ) → refusalOf given out ≡ 0 → (k : ℕ) → k < settingsIn given
     → getD (reportedOf given out) (row * k) 0 ≡ tallyOf (startedOf (settingAt given k)) .picture
 unfolding reportOf tallyAt
 first-place given out z k h =

@@ -6,7 +6,7 @@ use native.Mathlib.Omega.{arith}
 use lib.ListN.{length, getD, set, length-append}
 use lib.Seq.{getD-append-add}
 use Rattle.basics.specs.Lay.{laidAt}
-use Rattle.basics.proofs.Laying.{laid-sets}
+use Rattle.basics.proofs.Laying.{laid-sets, laid-next}
 use Rattle.tally.specs.Tally.{noTally, AtMost}
 use Rattle.tally.specs.declared.tally.Tally.{Tally}
 use Rattle.tally.proofs.Summing.{sum-last, greatest-last}
@@ -14,18 +14,22 @@ use Rattle.report.specs.Report.{row, rowOf, placesOf, totalsOf}
 use Rattle.report.specs.private.Joined.{joinedOf}
 
 -- seven stores one after the other
-pub seven-laid : (t : List ℕ) (at : ℕ) (k : Tally) → at + row ≤ length t
-    → set (set (set (set (set (set (set t at (k .picture)) (at + 1) (k .display)) (at + 2) (k .cursor)) (at + 3) (k .hsync)) (at + 4) (k .vsync)) (at + 5) (k .changed)) (at + 6) (k .most)
-    ≡ laidAt t at (rowOf k)
-unfolding rowOf
-seven-laid t at k h =
-    let e1 : at + 1 ≡ suc at = omega arith in
-    let e2 : at + 2 ≡ suc (suc at) = omega arith in
-    let e3 : at + 3 ≡ suc (suc (suc at)) = omega arith in
-    let e4 : at + 4 ≡ suc (suc (suc (suc at))) = omega arith in
-    let e5 : at + 5 ≡ suc (suc (suc (suc (suc at)))) = omega arith in
-    let e6 : at + 6 ≡ suc (suc (suc (suc (suc (suc at))))) = omega arith in
-    rw (e1, e2, e3, e4, e5, e6) (laid-sets t at (rowOf k) h)
+module _ (t : List ℕ) (at : ℕ) where
+  store : (u v : List ℕ) (x n : ℕ) → u ≡ laidAt t at v → length v ≡ n → at + n + 1 ≤ length t → set u (at + n) x ≡ laidAt t at (v ++ (x ∷ []))
+  store u v x n e l h = rw e (laid-next t at v x (at + n) (omega arith) (omega arith))
+
+  pub seven-laid : (k : Tally) → at + row ≤ length t
+      → set (set (set (set (set (set (set t at (k .picture)) (at + 1) (k .display)) (at + 2) (k .cursor)) (at + 3) (k .hsync)) (at + 4) (k .vsync)) (at + 5) (k .changed)) (at + 6) (k .most)
+      ≡ laidAt t at (rowOf k)
+  unfolding rowOf
+  seven-laid k h =
+      let first : set t at (k .picture) ≡ laidAt t at (k .picture ∷ []) = laid-sets t at (k .picture ∷ []) (omega arith) in
+      let one = store _ _ (k .display) 1 first refl (omega arith) in
+      let two = store _ _ (k .cursor) 2 one refl (omega arith) in
+      let three = store _ _ (k .hsync) 3 two refl (omega arith) in
+      let four = store _ _ (k .vsync) 4 three refl (omega arith) in
+      let five = store _ _ (k .changed) 5 four refl (omega arith) in
+      store _ _ (k .most) 6 five refl (omega arith)
 
 pub length-row : (k : Tally) → length (rowOf k) ≡ row
 unfolding rowOf

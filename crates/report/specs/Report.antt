@@ -72,8 +72,8 @@ areSettings n = ltb 0 n && leb n (most * bytes) && eqb (n % bytes) 0
 
 -- How the call ends. What the bytes are is looked at first: 10 where they are not such settings; then 11 where there are too few places;
 -- else 0, and the report is given.
-unfoldable pub refusalOf : List ℕ → ℕ → ℕ
-refusalOf given places = if areSettings (length given) then (if ltb places (needed given) then 11 else 0) else 10
+unfoldable pub refusalOf : List ℕ → List ℕ → ℕ
+refusalOf given out = if areSettings (length given) then (if ltb (length out) (needed given) then 11 else 0) else 10
 
 -- The places afterwards: the report from the first on, and behind it as they were. A refusal leaves every one as it was.
 unfoldable pub reportedOf : List ℕ → List ℕ → List ℕ

@@ -1,6 +1,5 @@
 // The report as a whole.
 ghost use mathlib.Core.Path.{_≡_};
-ghost use lib.ListN.{length};
 ghost use Rattle.report.specs.Report.{areSettings, refusalOf, reportedOf};
 use crate::rows::ROW;
 use crate::rows::put_row;
@@ -20,7 +19,7 @@ fn are_settings(n: usize) -> bool
 // A row for each setting and a row of totals, from the first place on. Gives 0, or the number of the refusal: 10 for bytes that are not 1
 // to 64 whole settings, 11 for too few places. After a refusal every place is as it was.
 pub fn report(settings: &[u8], out: &mut [u64]) -> u8
-    ensures said { λ r. ⌜ r ≡ refusalOf (now (settings .entry)) (length (now (out .entry))) ⌝ }
+    ensures said { λ r. ⌜ r ≡ refusalOf (now (settings .entry)) (now (out .entry)) ⌝ }
     ensures laid { λ r. ⌜ now (out .exit) ≡ reportedOf (now (settings .entry)) (now (out .entry)) ⌝ }
     ensures kept { λ r. ⌜ now (settings .exit) ≡ now (settings .entry) ⌝ }
 {

@@ -101,7 +101,7 @@ table-same w z n h =
     ap₂ (λ (a b : List ℕ). a ++ totalWord ++ b) (ap joined rows) (ap lineOf (row-same w z n (omega arith)))
 
 -- so the places that a report is laid at the front of make its text
-pub text-of-places : (given out places : List ℕ) → refusalOf given (length out) ≡ 0 → places ≡ reportedOf given out
+pub text-of-places : (given out places : List ℕ) → refusalOf given out ≡ 0 → places ≡ reportedOf given out
     → tableOf places (settingsIn given) ≡ reportTextOf given
 unfolding reportTextOf if_then_else_
 text-of-places given out places z e =
@@ -110,6 +110,6 @@ text-of-places given out places z e =
     (ap (λ (l : List ℕ). tableOf l (settingsIn given)) (e ∙ d .laid ∙ laid-front out (reportOf given))
     ∙ table-same (reportOf given) (drop (length (reportOf given)) out) (settingsIn given) (omega (arith, length-report given)))
 
-pub text-of-refusal : (given : List ℕ) (places : ℕ) → row * (most + 1) ≤ places → (refusalOf given places ≡ 0 → ⊥) → refusedText ≡ reportTextOf given
+pub text-of-refusal : (given out : List ℕ) → row * (most + 1) ≤ length out → (refusalOf given out ≡ 0 → ⊥) → refusedText ≡ reportTextOf given
 unfolding reportTextOf if_then_else_
-text-of-refusal given places h n = rw (not-settings given places h n)
+text-of-refusal given out h n = rw (not-settings given out h n)

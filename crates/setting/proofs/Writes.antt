@@ -1,6 +1,6 @@
 -- A setting's registers are what register writes leave. Assumes nothing.
 use Prim.Native.Nat.{ℕ, zero, suc, _+_, _^_, _<_, _≤_}
-use mathlib.Core.Path.{_≡_, refl, ap, sym, _∙_}
+use mathlib.Core.Path.{_≡_, refl, ap, sym, subst, _∙_}
 use mathlib.Core.List.{List}
 use native.Mathlib.Numerals.{add-one}
 use native.Mathlib.Omega.{arith}
@@ -59,7 +59,9 @@ arrived-alike r q e = record {
 pub by-writes : (given : List ℕ) → ByWrites given
 unfolding startedOf
 by-writes given = record {
-  started = λ c w. rw (reset-arrived (pairsOf given bytes c)) (arrived-alike (pairsOf given bytes c .regs) (settingOf given) (all-held given c w));
+  started = λ c w.
+      subst (λ (d : Controller). AlikeButNamed d (arrivedOf (settingOf given))) (sym (reset-arrived (pairsOf given bytes c)))
+      (arrived-alike (pairsOf given bytes c .regs) (settingOf given) (all-held given c w));
   registers = started-regs given;
   within = setting-within given;
 }

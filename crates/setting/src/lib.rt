@@ -26,7 +26,8 @@ fn cut(given: &[u8]) -> [u8; BYTES]
     let mut held = [0u8; BYTES];
     let mut k: usize = 0;
     while k < BYTES {
-        held[k] = kept(k as u8, byte_at(given, k));
+        let register = k as u8;
+        held[k] = kept(register, byte_at(given, k));
         k += 1;
     }
     held

@@ -24,8 +24,8 @@ abbrev μ-loop : tie.MeasureT-loop
 loop-holds : tie.Need-loop-holds Inv-loop μ-loop
 loop-holds c = (search needs, fill-none _ _)
 
-cast-kept : tie.Need-cast-kept Inv-loop μ-loop
-cast-kept c = search needs
+cast-register : tie.Need-cast-register Inv-loop μ-loop
+cast-register c = search needs
 
 byte-at-requires : tie.Need-byte-at-requires Inv-loop μ-loop
 byte-at-requires c κs = search needs
@@ -64,7 +64,7 @@ cut-spec =
     Inv-loop
     μ-loop
     loop-holds
-    cast-kept
+    cast-register
     byte-at-requires
     kept-requires
     array-write-held

@@ -21,8 +21,10 @@ add-t7 c = search needs
 
 add-t8 : tie.Need-add-t8
 add-t8 c =
-    let first = c .before .before .before .before .before .before in
-    let p = first .before .before .before .before .before .before .pre in
+    let third = c .before .before .before in
+    let first = third .before .before .before in
+    let begun = first .before .before .before in
+    let p = begun .before .before .before .pre in
     record { fits = omega (arith, p .0 .changed, p .1 .changed) }
 
 greater-requires : tie.Need-greater-requires

@@ -46,7 +46,8 @@ loop-again c =
     let one = put .before .before in
     let turn = one .before .before in
     let l = turn .loop in
-    let room = turn .before .before .before .before .pre .1 .1 in
+    let begun = turn .before .before .before in
+    let room = begun .before .pre .1 .1 in
     (omega arith, laying-more _ _ (l .k) _ _ _ _ _ (l .inv .1) (omega (arith, room)) (one .tally-at .ensures .0) (one .tally-at .ensures .1) (put .put-row .ensures) (c .joined .ensures))
 
 same-length : tie.Need-same-length Inv-loop μ-loop
@@ -54,8 +55,10 @@ same-length c = c .before .loop .inv .1 .long
 
 returns : tie.Need-returns Inv-loop μ-loop
 returns c =
-    let l = c .before .loop in
-    let all : l .k ≡ c .before .before .before .before .before .args .n = omega arith in
+    let turn = c .before in
+    let l = turn .loop in
+    let begun = turn .before .before .before in
+    let all : l .k ≡ begun .before .args .n = omega arith in
     (rw all at (l .inv .1 .rows), rw all at (l .inv .1 .totals))
 
 pub put-rows-spec : {M : Type 1} → statement M

@@ -1,7 +1,9 @@
-use Prim.Native.Nat.{_+_, _*_, _-_}
+use Prim.Native.Nat.{ℕ, _+_, _*_, _-_}
 use mathlib.Core.Path.{_≡_, ap, _∙_}
 use native.Mathlib.Omega.{arith}
-use Rattle.setting.specs.Setting.{bytes}
+use denote.Ref.{now}
+use lib.ListN.{take, drop}
+use Rattle.setting.specs.Setting.{bytes, startedOf}
 use Rattle.tally.specs.Tally.{tallyOf}
 use Rattle.report.specs.Report.{tallyAt}
 use borrow.Author.Needs.{needs}
@@ -32,9 +34,11 @@ count-frame-requires c κs = search needs
 returns : tie.Need-returns
 unfolding tallyAt
 returns c =
-    let k = c .before .before .before .before .args .k in
-    let long : bytes * k + bytes - bytes * k ≡ bytes = omega arith in
-    (c .count-frame .ensures .0 ∙ ap tallyOf (rw long at (c .before .start .ensures .0)), c .count-frame .ensures .1)
+    let started = c .before in
+    let a = started .before .before .before .args in
+    let long : bytes * a .k + bytes - bytes * a .k ≡ bytes = omega arith in
+    let part = ap (λ (n : ℕ). startedOf (take n (drop (bytes * a .k) (now (a .settings))))) long in
+    (c .count-frame .ensures .0 ∙ ap tallyOf (started .start .ensures .0 ∙ part), c .count-frame .ensures .1)
 
 pub tally-at-spec : {M : Type 1} → statement M
 tally-at-spec =

@@ -33,10 +33,12 @@ same-length c = search needs
 
 returns-2 : tie.Need-returns-2
 returns-2 c =
-    let rows = c .before .before .before .before .before .before in
+    let totals = c .before .before in
+    let between = totals .before .before in
+    let rows = between .before .before in
     let enough = rows .before .before in
     let t = enough .before in
-    ended-0 _ _ _ _ _ (sym (t .before .are-settings .ensures) ∙ t .if1 .taken) (enough .if2 .left) (rows .put-rows .ensures .0) (rows .put-rows .ensures .1) (c .before .before .put-row .ensures)
+    ended-0 _ _ _ _ _ (sym (t .before .are-settings .ensures) ∙ t .if1 .taken) (enough .if2 .left) (rows .put-rows .ensures .0) (rows .put-rows .ensures .1) (totals .put-row .ensures)
 
 returns-3 : tie.Need-returns-3
 returns-3 c = ended-10 _ _ (sym (c .before .are-settings .ensures) ∙ c .if1 .left)

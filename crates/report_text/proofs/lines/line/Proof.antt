@@ -47,7 +47,8 @@ loop-less c = omega arith
 loop-again : tie.Need-loop-again Inv-loop μ-loop
 loop-again c =
     let told = c .before .before in
-    let turn = told .before .before .before .before in
+    let read = told .before .before in
+    let turn = read .before .before in
     let l = turn .loop in
     let numbers = now (turn .before .before .before .args .numbers) in
     (omega arith, told .number .kept .0 ∙ l .inv .1, each-more (numberAt numbers) (l .i) refl (l .inv .2) (told .number .ensures))
@@ -58,8 +59,9 @@ same-length c = c .before .loop .inv .1
 returns : tie.Need-returns Inv-loop μ-loop
 unfolding lineOf
 returns c =
-    let l = c .before .loop in
-    let all : l .i ≡ length (now (c .before .before .before .before .args .numbers)) = omega arith in
+    let turn = c .before in
+    let l = turn .loop in
+    let all : l .i ≡ length (now (turn .before .before .before .args .numbers)) = omega arith in
     rw all at (l .inv .2)
 
 pub line-spec : {M : Type 1} → statement M

@@ -56,12 +56,13 @@ loop-less c = omega arith
 loop-again : tie.Need-loop-again Inv-loop μ-loop
 loop-again c =
     let told = c .before .before in
-    let turn = told .before .before .before .before in
+    let part = told .before .before in
+    let turn = part .before .before in
     let l = turn .loop in
     let places = now (turn .before .before .before .args .places) in
     let long : row * l .k + row - row * l .k ≡ row = omega arith in
-    let part = ap (λ (n : ℕ). lineOf (take n (drop (row * l .k) places))) long in
-    (omega arith, told .line .kept .0 ∙ l .inv .1, each-more (lineAt places) (l .k) part (l .inv .2) (told .line .ensures))
+    let row-of = ap (λ (n : ℕ). lineOf (take n (drop (row * l .k) places))) long in
+    (omega arith, told .line .kept .0 ∙ l .inv .1, each-more (lineAt places) (l .k) row-of (l .inv .2) (told .line .ensures))
 
 same-length : tie.Need-same-length Inv-loop μ-loop
 same-length c = c .before .loop .inv .1
@@ -69,8 +70,9 @@ same-length c = c .before .loop .inv .1
 returns : tie.Need-returns Inv-loop μ-loop
 unfolding linesOf
 returns c =
-    let l = c .before .loop in
-    let all : l .k ≡ c .before .before .before .before .args .n = omega arith in
+    let turn = c .before in
+    let l = turn .loop in
+    let all : l .k ≡ turn .before .before .before .args .n = omega arith in
     rw all at (l .inv .2)
 
 pub lines-spec : {M : Type 1} → statement M

@@ -45,9 +45,12 @@ same-length c = search needs
 returns : tie.Need-returns
 returns c =
     let last = c .before .before in
-    let word = last .before .before .before .before .before in
-    let first = word .before .before .before .before .before in
-    let a = first .before .before .before .before .args in
+    let parted = last .before .before .before in
+    let word = parted .before .before in
+    let lent = word .before .before .before in
+    let first = lent .before .before in
+    let begun = first .before .before in
+    let a = begun .before .before .args in
     let long : row * a .n + row - row * a .n ≡ row = omega arith in
     let part = ap (λ (n : ℕ). take n (drop (row * a .n) (now (a .places)))) long in
     writes-table (now (a .places)) (a .n) part (first .lines .ensures) (word .put .ensures .1 .1 .1) (last .line .ensures)

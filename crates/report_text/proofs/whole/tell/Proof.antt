@@ -50,7 +50,7 @@ returns-2 c =
     let given = now (asked .before .before .before .args .input) in
     (omega arith,
     whole-text (omega (arith, text-has-room given))
-    (rw (← text-of-refusal given (row * (most + 1)) (omega arith) (λ e. left .if1 .left (asked .report .ensures .0 ∙ e))) (c .put .ensures .1 .1 .1)))
+    (rw (← text-of-refusal given (replicate (row * (most + 1)) 0) (omega arith) (λ e. left .if1 .left (asked .report .ensures .0 ∙ e))) (c .put .ensures .1 .1 .1)))
 
 pub tell-spec : {M : Type 1} → statement M
 tell-spec =

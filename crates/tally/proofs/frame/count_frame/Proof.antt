@@ -49,10 +49,11 @@ columns-requires c κs =
 
 turn-requires : tie.Need-turn-requires Inv-loop μ-loop
 turn-requires c κs =
-    let turn = c .before .before .before .before in
+    let found = c .before in
+    let turn = found .before .before .before in
     let l = turn .loop in
     let begun = turn .before in
-    let k = c .before .columns-before in
+    let k = found .columns-before in
     let few = passed-most _ (l .t) (begun .begin .result) (l .p) (ap (λ (p : Pass). p .tally) (begun .begin .ensures)) (l .inv .1) in
     rw (c .columns .ensures)
     (most-more (l .t * 14 + k .result * 14) 4294967296 _ (omega (arith, k .ensures .0, begun .before .frame-times .ensures .1)) (turns-most _ (l .t * 14) (l .p) few (k .result)))
@@ -68,8 +69,9 @@ loop-less c = search needs
 
 loop-again : tie.Need-loop-again Inv-loop μ-loop
 loop-again c =
-    let k = c .before .before .columns-before in
-    let l = c .before .before .before .before .before .loop in
+    let found = c .before .before in
+    let k = found .columns-before in
+    let l = found .before .before .before .loop in
     (omega (arith, k .ensures .0), turns-more _ (l .t) (k .result) _ (l .p) _ _ (l .inv .1) (c .before .columns .ensures) (c .turn .ensures))
 
 returns : tie.Need-returns Inv-loop μ-loop

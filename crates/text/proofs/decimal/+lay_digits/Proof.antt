@@ -147,7 +147,8 @@ lay-digits-returns-3 : (t : ℕ) → lay-digits-lts.Need-returns-3 (
 ) (lay-digits-at t) lay-digits.Post
 lay-digits-returns-3 t c =
     let put = c .before .before in
-    let tenth = put .before .before .before .before .before in
+    let lent = put .before .before .before in
+    let tenth = lent .before .before in
     let more = tenth .before .before in
     let some = more .before .before in
     writes-last _ _ (some .if1 .left) (more .if2 .left) (more .before .last-digit .ensures) (tenth .lay-digits .ensures) (put .put2 .ensures .1 .1 .1)

@@ -25,7 +25,8 @@ same-length c = search needs
 returns : tie.Need-returns
 returns c =
     let put = c .before .before in
-    let laid = put .before .before .before .before in
+    let shared = put .before in
+    let laid = shared .before .before .before in
     let part = digits-part _ refl (laid .lay-digits .ensures) in
     let p = rw part at (put .put .ensures) in
     (p .0, (p .1 .0, p .1 .1 .1))

@@ -35,7 +35,8 @@ returns c =
     let counted = c .before .before in
     let lines = counted .before in
     let late = lines .before .before .before in
-    let entry = late .before .before .before .before in
+    let here = late .before in
+    let entry = here .before .before .before in
     let a = entry .args in
     rw (
       along-next (a .r) (a .self .scan) (entry .pre .0) (entry .pre .1 .0),
@@ -45,7 +46,7 @@ returns c =
       lines .before .ma2 .ensures,
       lines .before .before .ma .ensures,
       late .pins .ensures,
-      late .before .at .ensures,
+      here .at .ensures,
     )
 
 pub along-spec : {M : Type 1} → statement M

@@ -9,7 +9,9 @@ none-requires : tie.Need-none-requires
 none-requires c κs = search needs
 
 returns : tie.Need-returns
-returns c = ap (λ (k : Tally). passOf (c .before .before .before .before .args .c) k) (c .none .ensures)
+returns c =
+    let copied = c .before in
+    ap (λ (k : Tally). passOf (copied .before .before .before .args .c) k) (c .none .ensures)
 
 pub begin-spec : {M : Type 1} → statement M
 begin-spec = tie.close (tie.spec none-requires returns)
