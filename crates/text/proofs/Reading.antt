@@ -3,7 +3,7 @@ use Prim.Native.Nat.{ℕ, zero, suc, _+_, _*_, _-_, _/_, _%_, _^_, _<_, _≤_}
 use mathlib.Core.Path.{_≡_, refl, ap, _∙_}
 use mathlib.Core.List.{List, [], _∷_, _++_}
 use mathlib.Core.Logic.{⊎-elim}
-use native.Mathlib.Nat.{pow-suc, div-lt-iff-lt-mul, lt-trans}
+use native.Mathlib.Nat.{pow-suc, div-lt-iff-lt-mul}
 use native.Mathlib.Omega.{arith}
 use lib.Dec.{lit<}
 use Rattle.basics.proofs.Tests.{lt-or-ge}
@@ -37,4 +37,4 @@ read-digits (suc k) n h =
 
 -- twenty digits are enough for every number of 64 bits
 pub digits-name : DigitsName
-digits-name n h = read-digits 19 n (lt-trans h (lit< tt))
+digits-name n h = read-digits 19 n (omega (arith, h))
