@@ -220,15 +220,24 @@ def collisions(rng):
     return joined(parts)
 
 
+def cell_cut_off(setting, row, column):
+    """Locates with the line's end put before a struck cell, and with the frame's last row before it, and as it was."""
+    parts = []
+    for register, place in ((0, column), (4, row)):
+        if place:
+            parts += [put(register, place - 1), locate(), put(register, setting[register])]
+    return b"".join(parts) + locate()
+
+
 def no_cell_fits(rng):
-    """A strike in the picture, then a start address far away, then locate: refused 7."""
+    """A strike in the picture, then a frame that ends before it, or a start address far away, then locate: refused 7."""
     parts = []
     for _ in range(rng.randint(4, 10)):
         setting = small_setting(rng)
         rows, columns = picture_size(setting)
         row, column = rng.randrange(rows), rng.randrange(columns)
         parts += [written(rng, setting), reset_controller(), clocks(to_cell(setting, row, column))]
-        parts += [strike(), locate(), put(12, setting[12] ^ 32), locate()]
+        parts += [strike(), locate(), cell_cut_off(setting, row, column), put(12, setting[12] ^ 32), locate()]
         parts += [put(13, rng.randrange(256)), locate(), put(12, setting[12]), locate()]
     return joined(parts)
 

@@ -29,7 +29,6 @@ SUMS = {
     "crates/settled/specs/Cases.antt": "f10685c6f7dabc93",
     "crates/setting/specs/Writes.antt": "96ac18941edad5fc",
     "crates/settled/specs/Premises.antt": "4c4ff8cdc9c103ff",
-    "crates/text/specs/Decimal.antt": "d2e0cb12bbe73567",
 }
 
 

@@ -3,10 +3,10 @@ import random
 import unittest
 
 from batches import DEAL, SHARES, SORT_NAMES, make_batch, settings
-from batches.controller import cell_address, frame_length
+from batches.controller import cell_address, cell_cut_off, frame_length
 from batches.seeds import FIXED_SEED, OF_COMMIT, WHOLE_RUN, seeds_of, share
 from compared import COUNTS, PROGRAMS, REPLAYS
-from records import KEPT_BITS, MOST_SETTINGS, SETTING_BYTES, are_settings, clocks, fetches, settings_of
+from records import KEPT_BITS, MOST_SETTINGS, SETTING_BYTES, are_settings, clocks, fetches, locate, put, settings_of
 
 COMMIT = "0000199101234567" + 24 * "f"
 SEEDS = (FIXED_SEED, 1, 2)  # as many as a whole run has
@@ -52,6 +52,11 @@ class Batches(unittest.TestCase):
         inputs = [make_batch(FIXED_SEED, number).input for number in BATCHES]
         for most in (clocks(65535), fetches(65535)):
             self.assertGreaterEqual(sum(most in given for given in inputs), 4)
+
+    def test_a_struck_cell_is_cut_off_by_the_ends_of_line_and_frame(self):
+        cut = [put(0, 1), locate(), put(0, 5), put(4, 0), locate(), put(4, 3), locate()]
+        self.assertEqual(cell_cut_off({0: 5, 4: 3}, 1, 2), b"".join(cut))
+        self.assertEqual(cell_cut_off({0: 5, 4: 3}, 0, 0), locate())
 
 
 def registers_of(setting):

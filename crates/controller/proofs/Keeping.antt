@@ -5,11 +5,8 @@ use mathlib.Core.Bool.{Bool}
 use Rattle.basics.specs.Iterate.{iterate}
 use Rattle.basics.proofs.Iterating.{iterate-keeps}
 use Rattle.raster.specs.Scan.{topOf, nextOf}
-use Rattle.raster.specs.Sync.{arriveOf}
-use Rattle.raster.proofs.Syncs.{arrive-held}
 use Rattle.raster.specs.declared.registers.Registers.{Registers}
-use Rattle.raster.specs.declared.scan.Scan.{Scan}
-use Rattle.controller.specs.Chip.{noSync, arrivedOf, resetOf, writeOf, stepOf, clockOf, strikeOf}
+use Rattle.controller.specs.Chip.{arrivedOf, resetOf, writeOf, stepOf, clockOf, strikeOf}
 use Rattle.pen.specs.Pen.{noPen, struckOf}
 use Rattle.controller.specs.Chip.{strikeAt}
 use Rattle.controller.specs.Reads.{readOf}
@@ -87,24 +84,3 @@ reset-arrived c = refl
 pub arrived-regs : (r : Registers) → arrivedOf r .regs ≡ r
 unfolding arrivedOf
 arrived-regs r = refl
-
--- which goes by what they hold, and not by the one that is named
-module _ (r q : Registers) (e : r .held ≡ q .held) where
-  top-alike : topOf r 0 ≡ topOf q 0
-  top-alike = rw e
-
-  pub arrived-scan : arrivedOf r .scan ≡ arrivedOf q .scan
-  unfolding arrivedOf
-  arrived-scan = top-alike
-
-  pub arrived-sync : arrivedOf r .sync ≡ arrivedOf q .sync
-  unfolding arrivedOf
-  arrived-sync = arrive-held r q e (topOf r 0) noSync ∙ ap (λ (s : Scan). arriveOf q s noSync) top-alike
-
-  pub arrived-left : arrivedOf r .left ≡ arrivedOf q .left
-  unfolding arrivedOf
-  arrived-left = refl
-
-  pub arrived-pen : arrivedOf r .pen ≡ arrivedOf q .pen
-  unfolding arrivedOf
-  arrived-pen = refl

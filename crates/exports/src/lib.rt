@@ -120,5 +120,6 @@ pub extern "C" fn settings_report(settings: &[u8], places: &mut [u64]) -> u8
     ensures laid { λ r. ⌜ now (places .exit) ≡ reportedOf (now (settings .entry)) (now (places .entry)) ⌝ }
     ensures kept { λ r. ⌜ now (settings .exit) ≡ now (settings .entry) ⌝ }
 {
-    report::report(settings, places)
+    let said = report::report(settings, places);
+    said
 }

@@ -50,8 +50,8 @@ use Rattle.tally.specs.Tally.{tallyOf}
 use Rattle.report.specs.Report.{refusalOf, reportedOf}
 use Rattle.picture_total.specs.Picture.{Counted, Reported}
 use Rattle.picture_total.proofs.Picture.{counted, reported}
-use Rattle.text.specs.Decimal.{DigitsName}
-use Rattle.text.proofs.Reading.{digits-name}
+use Rattle.decimal.specs.Decimal.{DigitsName}
+use Rattle.decimal.proofs.Reading.{digits-name}
 use Rattle.report_text.specs.Text.{reportTextOf}
 use Rattle.settled.specs.Cases.{Settled}
 use Rattle.settled.specs.Premises.{Premises}

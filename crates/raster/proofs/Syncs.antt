@@ -5,7 +5,7 @@ use mathlib.Core.Bool.{false}
 use borrow.Author.Tests.{eq-eqb, ne-eqb}
 use Rattle.basics.specs.Choice.{if_then_else_}
 use Rattle.raster.specs.Registers.{reg}
-use Rattle.raster.specs.Sync.{hsyncOf, vsyncStartsOf, vsyncWidthOf, vsyncOf, arriveOf}
+use Rattle.raster.specs.Sync.{hsyncOf, vsyncStartsOf, vsyncOf, arriveOf}
 use Rattle.raster.specs.declared.registers.Registers.{Registers}
 use Rattle.raster.specs.declared.scan.Scan.{Scan}
 use Rattle.raster.specs.declared.sync.Sync.{Sync}
@@ -36,8 +36,3 @@ syncs h v = record { hsync = h; vsync = v }
 pub arrives : (r : Registers) (s : Scan) (y : Sync) {h v : ℕ} → hsyncOf r s (y .hsync) ≡ h → vsyncOf r s (y .vsync) ≡ v → arriveOf r s y ≡ syncs h v
 unfolding arriveOf
 arrives r s y e f = ap₂ syncs e f
-
--- an arrival goes by what the registers hold, and not by the one that is named
-pub arrive-held : (r q : Registers) → r .held ≡ q .held → (s : Scan) (y : Sync) → arriveOf r s y ≡ arriveOf q s y
-unfolding arriveOf hsyncOf vsyncOf vsyncStartsOf vsyncWidthOf
-arrive-held r q e s y = rw e

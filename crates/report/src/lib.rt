@@ -3,5 +3,6 @@ mod rows;
 mod settings;
 
 pub use rows::ROW;
+pub use settings::INPUT;
 pub use settings::MOST;
 pub use settings::report;

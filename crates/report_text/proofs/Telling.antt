@@ -14,9 +14,9 @@ use Rattle.basics.specs.Lay.{Writes}
 use Rattle.basics.proofs.Cases.{if-both}
 use Rattle.basics.proofs.Counting.{each-none, each-last, each-same, length-count}
 use Rattle.basics.proofs.Laying.{writes-nothing, then-writes, laid-front}
-use Rattle.text.specs.Decimal.{mostDigits, decimalOf}
+use Rattle.decimal.specs.Decimal.{mostDigits, decimalOf}
 use Rattle.text.specs.Lines.{newline}
-use Rattle.text.proofs.Digits.{length-decimal}
+use Rattle.decimal.proofs.Digits.{length-decimal}
 use Rattle.report.specs.Report.{most, row, settingsIn, reportOf, areSettings, refusalOf, reportedOf}
 use Rattle.report.proofs.Reporting.{settings-few, done, not-settings, length-report}
 use Rattle.report_text.specs.Lines.{space, joined, numberOf, lineOf, rowAt, linesOf}

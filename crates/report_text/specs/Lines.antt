@@ -6,7 +6,7 @@ use lib.Dec.{eqb}
 use lib.ListN.{length, getD, take, drop}
 use Rattle.basics.specs.Choice.{if_then_else_}
 use Rattle.basics.specs.Count.{count}
-use Rattle.text.specs.Decimal.{decimalOf}
+use Rattle.decimal.specs.Decimal.{decimalOf}
 use Rattle.text.specs.Lines.{newline}
 use Rattle.report.specs.Report.{row}
 

@@ -4,7 +4,7 @@ use Prim.Native.Nat.{ℕ, _+_, _*_}
 use mathlib.Core.List.{List, [], _∷_, _++_}
 use lib.ListN.{length}
 use Rattle.basics.specs.Choice.{if_then_else_}
-use Rattle.text.specs.Decimal.{mostDigits}
+use Rattle.decimal.specs.Decimal.{mostDigits}
 use Rattle.report.specs.Report.{most, row, settingsIn, reportOf, areSettings}
 use Rattle.report_text.specs.Lines.{rowAt, lineOf, linesOf}
 

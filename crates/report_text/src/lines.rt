@@ -6,8 +6,8 @@ ghost use Rattle.basics.specs.Lay.{Writes};
 ghost use Rattle.report.specs.Report.{row};
 ghost use Rattle.report_text.specs.Lines.{numberOf, lineOf, linesOf};
 use basics::put;
+use decimal::put_decimal;
 use report::ROW;
-use text::put_decimal;
 
 // A number, and behind it a space, or the end of the line where it is the last.
 fn number(text: &mut [u8], at: usize, n: u64, last: bool) -> usize

@@ -9,14 +9,14 @@ ghost use Rattle.report_text.specs.Text.{textLength, tableOf, reportText
 use crate::lines::line;
 use crate::lines::lines;
 use basics::put;
+use decimal::DIGITS;
 use report::MOST;
 use report::ROW;
 use report::report;
 use setting::BYTES;
-use text::DIGITS;
 
 // The longest input that is reported on.
-pub const INPUT: usize = MOST * BYTES;
+pub const INPUT: usize = report::INPUT;
 
 // The places of the longest report.
 const PLACES: usize = ROW * (MOST + 1);

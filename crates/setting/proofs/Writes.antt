@@ -1,10 +1,11 @@
 -- A setting's registers are what register writes leave. Assumes nothing.
 use Prim.Native.Nat.{ℕ, zero, suc, _+_, _^_, _<_, _≤_}
-use mathlib.Core.Path.{_≡_, refl, ap, sym, subst, _∙_}
-use mathlib.Core.List.{List}
+use mathlib.Core.Path.{_≡_, refl, ap, sym, _∙_}
+use mathlib.Core.List.{List, map}
 use native.Mathlib.Numerals.{add-one}
 use native.Mathlib.Omega.{arith}
 use lib.ListN.{length, getD}
+use Rattle.basics.specs.Count.{count}
 use Rattle.basics.proofs.Counting.{length-each, each-at}
 use Rattle.basics.proofs.Filling.{filled, fill-none, fill-next, fill-all}
 use Rattle.raster.specs.Widths.{RegistersWithin}
@@ -12,10 +13,10 @@ use Rattle.raster.specs.declared.registers.Registers.{Registers}
 use Rattle.controller.specs.Chip.{arrivedOf}
 use Rattle.controller.specs.Writes.{keptOf}
 use Rattle.controller.specs.declared.chip.Controller.{Controller}
-use Rattle.controller.proofs.Keeping.{reset-arrived, arrived-regs, arrived-scan, arrived-sync, arrived-left, arrived-pen}
+use Rattle.controller.proofs.Keeping.{reset-arrived, arrived-regs}
 use Rattle.controller.proofs.Writing.{kept-lt, write-pair}
 use Rattle.setting.specs.Setting.{bytes, cutOf, settingOf, startedOf}
-use Rattle.setting.specs.Writes.{pairsOf, AlikeButNamed, ByWrites}
+use Rattle.setting.specs.Writes.{pairsOf, ByWrites}
 
 module _ (given : List ℕ) where
   abbrev keeps : ℕ → ℕ
@@ -30,9 +31,13 @@ module _ (given : List ℕ) where
       ∙ rw (held-after c n w (omega arith)) (fill-next (c .regs .held) keeps n (keeps n) (omega arith) refl)
       ∙ ap (filled (c .regs .held) keeps) (add-one n)
 
-  all-held : (c : Controller) → length (c .regs .held) ≡ bytes → pairsOf given bytes c .regs .held ≡ settingOf given .held
-  unfolding settingOf cutOf
-  all-held c w = held-after c bytes w (omega arith) ∙ fill-all (c .regs .held) keeps bytes w
+  -- all of them written: R15 is the last, and so the one that is named
+  all-written : (c : Controller) → length (c .regs .held) ≡ bytes → pairsOf given bytes c .regs ≡ settingOf given
+  unfolding settingOf cutOf pairsOf
+  all-written c w =
+      let last = write-pair (pairsOf given 15 c) 15 (getD given 15 0) (omega arith) in
+      let held : pairsOf given bytes c .regs .held ≡ map keeps (count 0 bytes) = held-after c bytes w (omega arith) ∙ fill-all (c .regs .held) keeps bytes w in
+      last ∙ ap (λ (h : List ℕ). record { held = h; named = 15 }) (sym (ap (λ (r : Registers). r .held) last) ∙ held)
 
   setting-within : RegistersWithin (settingOf given)
   unfolding settingOf cutOf
@@ -47,21 +52,10 @@ pub started-regs : (given : List ℕ) → startedOf given .regs ≡ settingOf gi
 unfolding startedOf
 started-regs given = arrived-regs (settingOf given)
 
-arrived-alike : (r q : Registers) → r .held ≡ q .held → AlikeButNamed (arrivedOf r) (arrivedOf q)
-arrived-alike r q e = record {
-  held = ap (λ (x : Registers). x .held) (arrived-regs r) ∙ e ∙ sym (ap (λ (x : Registers). x .held) (arrived-regs q));
-  scan = arrived-scan r q e;
-  sync = arrived-sync r q e;
-  left = arrived-left r q e;
-  pen = arrived-pen r q e;
-}
-
 pub by-writes : (given : List ℕ) → ByWrites given
 unfolding startedOf
 by-writes given = record {
-  started = λ c w.
-      subst (λ (d : Controller). AlikeButNamed d (arrivedOf (settingOf given))) (sym (reset-arrived (pairsOf given bytes c)))
-      (arrived-alike (pairsOf given bytes c .regs) (settingOf given) (all-held given c w));
+  started = λ c w. reset-arrived (pairsOf given bytes c) ∙ ap arrivedOf (all-written given c w);
   registers = started-regs given;
   within = setting-within given;
 }

@@ -13,13 +13,13 @@ abbrev pub bytes : ℕ
 bytes = 16
 
 -- What the registers keep of their bytes, each its low bits, as after a write. Decision: a byte that is missing counts as 0, and one
--- behind the sixteenth does not count.
+-- after the sixteenth does not count.
 unfoldable pub cutOf : List ℕ → List ℕ
 cutOf given = map (λ (k : ℕ). keptOf k (getD given k 0)) (count 0 bytes)
 
--- The registers of a setting. Decision: the address register is 0; nothing that is shown depends on it.
+-- The registers of a setting. Decision: the address register names R15, as it does when R0 to R15 have been written in this order.
 unfoldable pub settingOf : List ℕ → Registers
-settingOf given = record { held = cutOf given; named = 0 }
+settingOf given = record { held = cutOf given; named = 15 }
 
 -- the controller that it starts: reset, with these registers
 unfoldable pub startedOf : List ℕ → Controller

@@ -39,7 +39,7 @@ pub fn registers(given: &[u8]) -> Registers
     ensures kept { λ r. ⌜ now (given .exit) ≡ now (given .entry) ⌝ }
 {
     let held = cut(given);
-    Registers { held, named: 0 }
+    Registers { held, named: 15 }
 }
 
 // The controller that a setting starts.
@@ -49,5 +49,6 @@ pub fn start(given: &[u8]) -> Controller
 {
     let mut c = Controller::fresh();
     c.regs = registers(given);
-    c.reset()
+    let started = c.reset();
+    started
 }

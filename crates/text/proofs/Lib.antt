@@ -1,5 +1,3 @@
-pub mod Digits
-pub mod Reading
 pub mod Hexing
 pub mod Lining
 pub mod Whole

@@ -1,11 +1,8 @@
-// Texts: bytes as two lowercase hex digits each, bytes eight to a line, decimal numbers, and how much of a text a program says.
-mod decimal;
+// Texts: bytes as two lowercase hex digits each, bytes eight to a line, and how much of a text a program says.
 mod hex;
 mod lines;
 mod speech;
 
-pub use decimal::DIGITS;
-pub use decimal::put_decimal;
 pub use hex::put_hex;
 pub use lines::LINE;
 pub use lines::PER_LINE;

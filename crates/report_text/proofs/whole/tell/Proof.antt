@@ -33,9 +33,10 @@ returns c =
     let took = c .before .before .before in
     let asked = took .before .before in
     let said = asked .report .ensures in
-    let given = now (asked .before .before .before .args .input) in
-    (omega arith,
-    whole-text (omega (arith, text-has-room given)) (rw (text-of-places given _ _ (sym (said .0) ∙ took .if1 .taken) (said .1 .0)) at (c .table .ensures)))
+    let given = now (asked .before .before .before .args .input) in (
+      omega arith,
+      whole-text (omega (arith, text-has-room given)) (rw (text-of-places given _ _ (sym (said .0) ∙ took .if1 .taken) (said .1 .0)) at (c .table .ensures)),
+    )
 
 slice-aggregate-put : tie.Need-slice-aggregate-put
 slice-aggregate-put c = search needs
@@ -47,10 +48,11 @@ returns-2 : tie.Need-returns-2
 returns-2 c =
     let left = c .before .before .before in
     let asked = left .before .before in
-    let given = now (asked .before .before .before .args .input) in
-    (omega arith,
-    whole-text (omega (arith, text-has-room given))
-    (rw (← text-of-refusal given (replicate (row * (most + 1)) 0) (omega arith) (λ e. left .if1 .left (asked .report .ensures .0 ∙ e))) (c .put .ensures .1 .1 .1)))
+    let given = now (asked .before .before .before .args .input) in (
+      omega arith,
+      whole-text (omega (arith, text-has-room given))
+          (rw (← text-of-refusal given (replicate (row * (most + 1)) 0) (omega arith) (λ e. left .if1 .left (asked .report .ensures .0 ∙ e))) (c .put .ensures .1 .1 .1)),
+    )
 
 pub tell-spec : {M : Type 1} → statement M
 tell-spec =

@@ -1,4 +1,3 @@
-
 use borrow.Author.Needs.{needs}
 use Rattle.tally.proofs.frame.frame_times.Statement.{statement}
 use Rattle.tally.proofs.frame.frame_times.Tie as tie

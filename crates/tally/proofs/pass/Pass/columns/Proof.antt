@@ -26,10 +26,13 @@ along-requires c κs =
     let entry = c .before .before in
     let a = entry .args in
     let column : l .p .scan .column ≡ a .self .scan .column + l .j =
-    ap (λ (p : Pass). p .scan .column) (l .inv .1) ∙ turns-along (a .r) (a .self) (l .j) (omega (arith, entry .pre .0)) (omega (arith, entry .pre .1 .0)) in
-    (λ e. omega (arith, entry .pre .0),
-    (omega (arith, entry .pre .1 .0),
-    rw (l .inv .1) (most-more _ 4294967296 _ (omega (arith, entry .pre .1 .0)) (turns-most (a .r) 4294963200 (a .self) (entry .pre .1 .1) (l .j)))))
+    ap (λ (p : Pass). p .scan .column) (l .inv .1) ∙ turns-along (a .r) (a .self) (l .j) (omega (arith, entry .pre .0)) (omega (arith, entry .pre .1 .0)) in (
+      λ e. omega (arith, entry .pre .0),
+      (
+        omega (arith, entry .pre .1 .0),
+        rw (l .inv .1) (most-more _ 4294967296 _ (omega (arith, entry .pre .1 .0)) (turns-most (a .r) 4294963200 (a .self) (entry .pre .1 .1) (l .j))),
+      ),
+    )
 
 add-j : tie.Need-add-j Inv-loop μ-loop
 add-j c = search needs

@@ -1,16 +1,16 @@
 use native.Mathlib.Omega.{arith}
 use borrow.Author.Needs.{needs}
-use Rattle.text.proofs.Digits.{writes-none, writes-one, writes-last}
+use Rattle.decimal.proofs.Digits.{writes-none, writes-one, writes-last}
 use Prim.Native.Nat.{ℕ, _<_}
 use borrow.Fn.Kinds.{In}
 use borrow.Fn.PlainCycle.{Measures, is, falls, and}
-use Rattle.text.proofs.decimal.lay_digits.Reads as lay-digits
-use Rattle.text.proofs.decimal.lay_digits.Kinds as lay-digits-kinds
-use Rattle.text.proofs.decimal.+lay_digits.Lts-lay_digits as lay-digits-lts
+use Rattle.decimal.proofs.lay_digits.Reads as lay-digits
+use Rattle.decimal.proofs.lay_digits.Kinds as lay-digits-kinds
+use Rattle.decimal.proofs.+lay_digits.Lts-lay_digits as lay-digits-lts
 use Rattle.basics.proofs.put.Reads as put-reads
-use Rattle.text.proofs.decimal.last_digit.Reads as last-digit-reads
-use Rattle.text.proofs.decimal.+lay_digits.{statement}
-use Rattle.text.proofs.decimal.+lay_digits.Tie.{close}
+use Rattle.decimal.proofs.last_digit.Reads as last-digit-reads
+use Rattle.decimal.proofs.+lay_digits.{statement}
+use Rattle.decimal.proofs.+lay_digits.Tie.{close}
 
 abbrev μ-lay-digits : Measures 1 lay-digits-kinds.ps ℕ
 μ-lay-digits κs a = a .1 .1 .1 .0

@@ -11,7 +11,7 @@ use Rattle.basics.specs.Choice.{if_then_else_}
 use Rattle.basics.specs.Lay.{Laid, Writes}
 use Rattle.basics.proofs.Cases.{if-both}
 use Rattle.basics.proofs.Laying.{laid-front, laid-same, writes-nothing, then-writes}
-use Rattle.text.specs.Decimal.{decimalIn, mostDigits, decimalOf}
+use Rattle.decimal.specs.Decimal.{decimalIn, mostDigits, decimalOf}
 
 -- a number below ten has one digit
 pub one-digit : (k n : ℕ) → n < 10 → decimalIn (suc k) n ≡ (48 + n % 10) ∷ []

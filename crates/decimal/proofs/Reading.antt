@@ -7,8 +7,8 @@ use native.Mathlib.Nat.{pow-suc, div-lt-iff-lt-mul}
 use native.Mathlib.Omega.{arith}
 use lib.Dec.{lit<}
 use Rattle.basics.proofs.Tests.{lt-or-ge}
-use Rattle.text.specs.Decimal.{decimalIn, decimalOf, readOn, DigitsName}
-use Rattle.text.proofs.Digits.{one-digit, more-digits}
+use Rattle.decimal.specs.Decimal.{decimalIn, decimalOf, readOn, DigitsName}
+use Rattle.decimal.proofs.Digits.{one-digit, more-digits}
 
 read-append : (a : ℕ) (l m : List ℕ) → readOn a (l ++ m) ≡ readOn (readOn a l) m
 unfolding readOn

@@ -1,9 +1,9 @@
-// Decimal digits.
+// Numbers as decimal digits.
 ghost use mathlib.Core.Path.{_≡_};
 ghost use mathlib.Core.List.{[], _∷_};
 ghost use Prim.Native.Nat.{_+_, _%_};
 ghost use Rattle.basics.specs.Lay.{Writes, behindOf, putAt};
-ghost use Rattle.text.specs.Decimal.{decimalIn, decimalOf};
+ghost use Rattle.decimal.specs.Decimal.{decimalIn, decimalOf};
 use basics::put;
 
 // The most digits that a number of 64 bits has.

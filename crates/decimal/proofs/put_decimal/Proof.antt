@@ -1,8 +1,8 @@
 use mathlib.Core.Path.{refl}
-use Rattle.text.proofs.Digits.{digits-within, digits-part, digits-count}
+use Rattle.decimal.proofs.Digits.{digits-within, digits-part, digits-count}
 use borrow.Author.Needs.{needs}
-use Rattle.text.proofs.decimal.put_decimal.Statement.{statement}
-use Rattle.text.proofs.decimal.put_decimal.Tie as tie
+use Rattle.decimal.proofs.put_decimal.Statement.{statement}
+use Rattle.decimal.proofs.put_decimal.Tie as tie
 
 slice-aggregate-lay-digits : tie.Need-slice-aggregate-lay-digits
 slice-aggregate-lay-digits c = search needs
