@@ -13,6 +13,7 @@ SUMS = {
     "crates/basics/specs/Lay.antt": "eb00da38c261183c",
     "crates/control/specs/Write.antt": "cc19ff58d2cfa836",
     "crates/controller/specs/Widths.antt": "1223d07be6f9281c",
+    "crates/decimal/specs/Decimal.antt": "d2e0cb12bbe73567",
     "crates/demand/specs/Demand.antt": "9f6bec85ca237f9a",
     "crates/every_record/specs/Alone.antt": "a8717d975bede313",
     "crates/every_record/specs/Refusals.antt": "3053fc621f83204d",
@@ -27,7 +28,7 @@ SUMS = {
     "crates/refresh_and_pictures/specs/Refresh.antt": "1e4f3c3808ec21aa",
     "crates/replay/specs/Run.antt": "af9cc5c81c5527a6",
     "crates/settled/specs/Cases.antt": "f10685c6f7dabc93",
-    "crates/setting/specs/Writes.antt": "96ac18941edad5fc",
+    "crates/setting/specs/Writes.antt": "f6b1f20f926ceb9c",
     "crates/settled/specs/Premises.antt": "4c4ff8cdc9c103ff",
 }
 

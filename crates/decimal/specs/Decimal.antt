@@ -18,7 +18,7 @@ mostDigits = 20
 abbrev pub decimalOf : ℕ → List ℕ
 decimalOf n = decimalIn mostDigits n
 
--- the number that digits name, read from left to right behind a number that is read already
+-- the number that digits name, read from left to right after a number that is read already
 unfoldable pub readOn : ℕ → List ℕ → ℕ
 readOn a [] = a
 readOn a (d ∷ l) = readOn (10 * a + (d - 48)) l

@@ -88,10 +88,10 @@ use Rattle.alone.proofs.on_reset.Reads as alone·on-reset
 use Rattle.alone.proofs.write.Reads as alone·write
 use Rattle.alone.proofs.clock.Reads as alone·clock
 use Rattle.alone.proofs.strike.Reads as alone·strike
-use Rattle.text.proofs.put_decimal.Reads as text·put-decimal
 use Rattle.text.proofs.put_hex.Reads as text·put-hex
 use Rattle.text.proofs.put_lines.Reads as text·put-lines
 use Rattle.text.proofs.said.Reads as text·said
+use Rattle.decimal.proofs.put_decimal.Reads as decimal·put-decimal
 use Rattle.bodies.proofs.bus_answer.Reads as bodies·bus-answer
 use Rattle.bodies.proofs.shown_answer.Reads as bodies·shown-answer
 use Rattle.bodies.proofs.levels_answer.Reads as bodies·levels-answer
@@ -364,9 +364,6 @@ alone-clock κs a x y s t p q = one-answer p q
 pub alone-strike : OneAnswer alone·strike.Post (λ κs r s. r)
 alone-strike κs a x y s t p q = one-answer p q
 
-pub text-put-decimal : OneAnswer text·put-decimal.Post (λ κs r s. r beside now (s .0))
-text-put-decimal κs a x y s t p q = one-answer (p .0) (q .0) and one-answer (p .1 .0) (q .1 .0)
-
 pub text-put-hex : OneAnswer text·put-hex.Post (λ κs r s. r beside now (s .0) beside now (s .1 .1 .0))
 text-put-hex κs a x y s t p q = one-answer (p .0) (q .0) and one-answer (p .1 .0) (q .1 .0) and one-answer (p .1 .1 .0) (q .1 .1 .0)
 
@@ -375,6 +372,9 @@ text-put-lines κs a x y s t p q = one-answer (p .0) (q .0) and one-answer (p .1
 
 pub text-said : OneAnswer text·said.Post (λ κs r s. r beside now (s .1 .0))
 text-said κs a x y s t p q = one-answer (p .0) (q .0) and one-answer (p .1 .1) (q .1 .1)
+
+pub decimal-put-decimal : OneAnswer decimal·put-decimal.Post (λ κs r s. r beside now (s .0))
+decimal-put-decimal κs a x y s t p q = one-answer (p .0) (q .0) and one-answer (p .1 .0) (q .1 .0)
 
 pub bodies-bus-answer : OneAnswer bodies·bus-answer.Post (λ κs r s. r)
 bodies-bus-answer κs a x y s t p q = one-answer p q

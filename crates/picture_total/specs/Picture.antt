@@ -1,4 +1,4 @@
--- How many of a frame's character times lie in the picture (document 02, W1: the picture total by columns, rows and lines), and that they
+-- How many of a frame's character times lie in the picture (document 02, W1, the total in closed form), and that they
 -- are those of one frame.
 use Prim.Native.Nat.{ℕ, _+_, _*_, _<_}
 use mathlib.Core.Path.{_≡_}
@@ -14,8 +14,8 @@ use Rattle.setting.specs.Setting.{settingOf, startedOf}
 use Rattle.tally.specs.Tally.{tallyOf}
 use Rattle.report.specs.Report.{row, settingAt, settingsIn, refusalOf, reportedOf}
 
--- The picture's columns (the lesser of R1 and R0+1) times its rows (the lesser of R6 and R4+1), both as the locator counts its cells, times
--- the R9+1 lines of a row.
+-- columns by rows by lines: a column of the picture is below R1 and at most R0, a row below R6 and at most R4, both as the locator counts
+-- its cells, and a row has R9+1 lines
 abbrev pub pictureTimes : Registers → ℕ
 pictureTimes r = columnsOf r * rowsOf r * (reg r 9 + 1)
 
@@ -23,11 +23,11 @@ pictureTimes r = columnsOf r * rowsOf r * (reg r 9 + 1)
 pub record Counted (given : List ℕ) : Type 0 where
   -- the picture total
   pub picture : tallyOf (startedOf given) .picture ≡ pictureTimes (settingOf given)
-  -- the times counted are one frame: the next one begins right behind the last of them, and none before
+  -- the times counted are one frame: the next one begins right after the last of them, and none before
   pub next : beginsAt (settingOf given) (startedOf given .scan) (frameTimes (settingOf given)) ≡ true
   pub only : (t : ℕ) → t < frameTimes (settingOf given) → beginsAt (settingOf given) (startedOf given .scan) t ≡ true → ⊥
 
--- In a report, the first place of each setting's row.
+-- In a report that is given, the first place of each setting's row holds this product.
 abbrev pub Reported : List ℕ → List ℕ → Type 0
 Reported given out =
     refusalOf given out ≡ 0 → (k : ℕ) → k < settingsIn given → getD (reportedOf given out) (row * k) 0 ≡ pictureTimes (settingOf (settingAt given k))

@@ -29,7 +29,7 @@ unfoldable pub placesOf : List Tally → List ℕ
 placesOf [] = []
 placesOf (k ∷ l) = rowOf k ++ placesOf l
 
--- the row of totals: the sums of the rows, and of the largest changes the greatest
+-- the last row: six columns added up, and the greatest of the seventh
 unfoldable pub totalsOf : List Tally → Tally
 totalsOf l = record {
   picture = sum (map (λ (k : Tally). k .picture) l);
@@ -45,7 +45,7 @@ totalsOf l = record {
 abbrev pub settingAt : List ℕ → ℕ → List ℕ
 settingAt given k = take bytes (drop (bytes * k) given)
 
--- what one frame does after a reset with it
+-- what the first frame after a reset does with it
 unfoldable pub tallyAt : List ℕ → ℕ → Tally
 tallyAt given k = tallyOf (startedOf (settingAt given k))
 
@@ -53,7 +53,7 @@ tallyAt given k = tallyOf (startedOf (settingAt given k))
 abbrev pub talliesOf : List ℕ → ℕ → List Tally
 talliesOf given n = map (tallyAt given) (count 0 n)
 
--- how many settings so many bytes are
+-- how many whole settings the bytes hold
 abbrev pub settingsIn : List ℕ → ℕ
 settingsIn given = length given / bytes
 
@@ -75,7 +75,7 @@ areSettings n = ltb 0 n && leb n (most * bytes) && eqb (n % bytes) 0
 unfoldable pub refusalOf : List ℕ → List ℕ → ℕ
 refusalOf given out = if areSettings (length given) then (if ltb (length out) (needed given) then 11 else 0) else 10
 
--- The places afterwards: the report from the first on, and behind it as they were. A refusal leaves every one as it was.
+-- The places afterwards: the report from the first on, and after it as they were. A refusal leaves every one as it was.
 unfoldable pub reportedOf : List ℕ → List ℕ → List ℕ
 reportedOf given out =
     if areSettings (length given) then (if ltb (length out) (needed given) then out else laidAt out 0 (reportOf given)) else out

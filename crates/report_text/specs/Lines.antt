@@ -19,7 +19,7 @@ unfoldable pub joined : List (List ℕ) → List ℕ
 joined [] = []
 joined (w ∷ l) = w ++ joined l
 
--- a number in decimal, and behind it one space, or the end of the line where it is the last
+-- a number in decimal, and after it one space, or the end of the line where it is the last
 unfoldable pub numberOf : ℕ → Bool → List ℕ
 numberOf n last = decimalOf n ++ (if last then newline else space)
 

@@ -12,11 +12,11 @@ use Rattle.report_text.specs.Lines.{rowAt, lineOf, linesOf}
 abbrev pub totalWord : List ℕ
 totalWord = 116 ∷ 111 ∷ 116 ∷ 97 ∷ 108 ∷ 32 ∷ []
 
--- `refused 10`, all that is said of bytes that are not 1 to 64 whole settings. There is no other refusal: the program has places enough.
+-- `refused 10`, all that is said of bytes that are no such settings. There is no other refusal: the program has places enough.
 abbrev pub refusedText : List ℕ
 refusedText = 114 ∷ 101 ∷ 102 ∷ 117 ∷ 115 ∷ 101 ∷ 100 ∷ 32 ∷ 49 ∷ 48 ∷ 10 ∷ []
 
--- n rows on their lines, and then the row behind them, the totals, on the last line
+-- n rows on their lines, and then the row after them, the totals, on the last line
 unfoldable pub tableOf : List ℕ → ℕ → List ℕ
 tableOf places n = linesOf places n ++ totalWord ++ lineOf (rowAt places n)
 
@@ -24,6 +24,6 @@ tableOf places n = linesOf places n ++ totalWord ++ lineOf (rowAt places n)
 unfoldable pub reportTextOf : List ℕ → List ℕ
 reportTextOf given = if areSettings (length given) then tableOf (reportOf given) (settingsIn given) else refusedText
 
--- no text is longer: each number of the longest report as long as a number can be, with what stands behind it, and the word
+-- no text is longer: each number of the longest report as long as a number can be, with the byte after it, and the word
 abbrev pub textLength : ℕ
 textLength = (mostDigits + 1) * (row * (most + 1)) + length totalWord

@@ -9,7 +9,7 @@ use basics::put;
 use decimal::put_decimal;
 use report::ROW;
 
-// A number, and behind it a space, or the end of the line where it is the last.
+// A number, and after it a space, or the end of the line where it is the last.
 fn number(text: &mut [u8], at: usize, n: u64, last: bool) -> usize
     ensures { λ q. ⌜ Writes (now (text .entry)) (now (text .exit)) at q (numberOf n last) ⌝ }
 {

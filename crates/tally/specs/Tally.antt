@@ -1,5 +1,5 @@
--- What a frame does, in seven numbers (document 02, W1). Each is taken over the list of the frame's character times, and these are the
--- controller's own: clocked by its rules, with the outputs that it shows.
+-- What a frame does, in seven numbers (document 02, W1). Five are taken over the list of its character times, two over the list of the
+-- changes between each of them and the next. The times are the controller's own: clocked by its rules, with the outputs that it shows.
 use Prim.Native.Nat.{ℕ, suc, _≤_}
 use mathlib.Core.Bool.{Bool}
 use mathlib.Core.List.{List, map}
@@ -27,12 +27,12 @@ timesOf c n = map (shownOf c) (count 0 n)
 abbrev pub howMany : (Outputs → Bool) → List Outputs → ℕ
 howMany shows times = sum (map (λ (o : Outputs). num (shows o)) times)
 
--- in how many lines two addresses differ: the ones of their exclusive or
+-- in how many address lines two addresses differ: those set in their exclusive or
 abbrev pub changedOf : ℕ → ℕ → ℕ
 changedOf from to = ones (bitXor from to)
 
--- The address lines that change from the t-th character time to the one behind it. Behind a frame's last comes the next frame's first,
--- with the address that the scan shows there.
+-- The address lines that change from the t-th character time to the one after it. After a frame's last comes the next frame's first, with
+-- the address that the scan shows there.
 unfoldable pub changeOf : Controller → ℕ → ℕ
 changeOf c t = changedOf (shownOf c t .ma) (shownOf c (suc t) .ma)
 
@@ -53,7 +53,8 @@ talliedOf c n = record {
   most = greatest (changesOf c n);
 }
 
--- Those of one frame: as many character times as demand 3 gives a frame. A frame begins where a reset left the controller.
+-- Those of one frame: as many character times as demand 3 gives a frame, from where the controller stands; a reset leaves it where a frame
+-- begins.
 unfoldable pub tallyOf : Controller → Tally
 tallyOf c = talliedOf c (frameTimes (c .regs))
 

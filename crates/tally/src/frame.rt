@@ -35,7 +35,7 @@ fn frame_times(r: Registers) -> u32
 }
 
 // What the controller does from here on in as many character times as a frame has. Each turn passes the columns that are left of a line
-// but its last, and then takes one step.
+// but its last, and then takes one step. No number is above fourteen for each of at most 16,842,496 times.
 pub fn count_frame(c: Controller) -> Tally
     ensures is { λ k. ⌜ k ≡ tallyOf c ⌝ }
     ensures most { λ k. ⌜ AtMost 235794944 k ⌝ }

@@ -7,8 +7,8 @@ ghost use Rattle.tally.specs.private.Pass.{withOf};
 use facts::Facts;
 use raster::Sync;
 
-// The character times in the picture, with display enable, cursor, HSYNC and VSYNC high, the address lines that changed from one time to
-// the next, and the most that changed at once.
+// Seven counts: times in the picture; times at which each of the four pins is high; address lines that changed from one time to the next,
+// all of them, and the most at once.
 #[repr(C)]
 pub struct Tally {
     pub picture: u64,
@@ -35,7 +35,7 @@ pub fn greater(x: u64, y: u64) -> u64
     if x < y { y } else { x }
 }
 
-// In how many lines two addresses differ.
+// In how many address lines two addresses differ.
 pub(crate) fn changed(from: u16, to: u16) -> u64
     ensures is { λ n. ⌜ n ≡ changedOf from to ⌝ }
     ensures most { λ n. ⌜ n ≤ 16 ⌝ }
@@ -59,7 +59,7 @@ impl Tally {
         }
     }
 
-    // With one character time more: whether it is in the picture, the two pins that can come late, the syncs, and the lines that change.
+    // With one time more: whether it is in the picture, the two pins that can come late, the syncs, and the address lines that change.
     pub(crate) fn with(self, picture: bool, pins: Facts, sync: Sync, lines: u64) -> Tally
         requires { ⌜ AtMost 4294967296 self ⌝ }
         requires { ⌜ lines ≤ 16 ⌝ }

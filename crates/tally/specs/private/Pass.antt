@@ -40,7 +40,7 @@ pinsOf r left here = record {
 abbrev pub passOf : Controller → Tally → Pass
 passOf c k = record { scan = c .scan; sync = c .sync; left = c .left; tally = k }
 
--- a turn
+-- a turn: the character that is left is counted, and the scan and the syncs go on to the next
 unfoldable pub turnOf : Registers → Pass → Pass
 turnOf r p = record {
   scan = nextOf r (p .scan);
