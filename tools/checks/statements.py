@@ -13,7 +13,7 @@ SUMS = {
     "crates/basics/specs/Lay.antt": "eb00da38c261183c",
     "crates/control/specs/Write.antt": "cc19ff58d2cfa836",
     "crates/controller/specs/Widths.antt": "1223d07be6f9281c",
-    "crates/decimal/specs/Decimal.antt": "d2e0cb12bbe73567",
+    "crates/decimal/specs/Decimal.antt": "a7053a9c0a329c3d",
     "crates/demand/specs/Demand.antt": "9f6bec85ca237f9a",
     "crates/every_record/specs/Alone.antt": "a8717d975bede313",
     "crates/every_record/specs/Refusals.antt": "3053fc621f83204d",

@@ -50,8 +50,8 @@ use Rattle.tally.specs.Tally.{tallyOf}
 use Rattle.report.specs.Report.{refusalOf, reportedOf}
 use Rattle.picture_total.specs.Picture.{Counted, Reported}
 use Rattle.picture_total.proofs.Picture.{counted, reported}
-use Rattle.decimal.specs.Decimal.{DigitsName}
-use Rattle.decimal.proofs.Reading.{digits-name}
+use Rattle.decimal.specs.Decimal.{Digits}
+use Rattle.decimal.proofs.Reading.{digits}
 use Rattle.report_text.specs.Text.{reportTextOf}
 use Rattle.settled.specs.Cases.{Settled}
 use Rattle.settled.specs.Premises.{Premises}
@@ -229,8 +229,8 @@ report-laid κs a r s p = p .1
 pub report-pictures : (given out : List ℕ) → Reported given out
 report-pictures = reported
 
-pub decimal-names : DigitsName
-decimal-names = digits-name
+pub decimal-digits : (n : ℕ) → Digits n
+decimal-digits = digits
 
 pub report-text : States report-text·tell.Post (λ κs a r s. (r ≡ length (reportTextOf (now (a .0)))) × (now (s .1 .0) ≡ laidAt (now (a .1 .0)) 0 (reportTextOf (now (a .0)))))
 report-text κs a r s p = (p .1 .0, p .1 .1 .0)
