@@ -18,7 +18,7 @@ from desk.main import command_line, main
 from desk.sheets import SHAPES, Setting, bytes_of, from_bytes, from_hex, from_words
 from desk.terminal import Paper
 from records import are_settings
-from tests.trees import TreeTest
+from tests.examples_tree import ExamplesTest
 
 # Sheets, and of each setting there the name and the registers that are not 0.
 SAID = {
@@ -460,23 +460,12 @@ class Program(unittest.TestCase):
         self.assertIn("counts", command_line().format_help())
 
 
-class Examples(TreeTest):
+class Examples(ExamplesTest):
     """A folder of two examples, one of them of settings."""
 
+    SOURCES = tuple(examples.MADE_FROM)
+
     FILES = {f"examples/{name}": "" for name in ("one.batch", *(f"one.{ending}" for ending in examples.MADE), "two.settings", "two.counts")}
-
-    def setUp(self):
-        super().setUp()
-        folder = mock.patch.object(examples, "EXAMPLES", self.top / "examples")
-        folder.start()
-        self.addCleanup(folder.stop)
-
-    def assertNames(self, words):
-        """The folder is not taken, and the message has these words."""
-        self.write()
-        for source in examples.MADE_FROM:
-            with self.subTest(source), self.assertRaisesRegex(examples.Disagreement, words):
-                examples.example_names(source)
 
     def test_whole_examples(self):
         self.write()

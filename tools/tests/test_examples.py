@@ -1,28 +1,15 @@
 """What the examples' files are held to, and what a trial of the desk is held to."""
 import unittest
-from unittest import mock
 
 import examples
 from desk.trials import TRIALS, Trial
-from tests.trees import TreeTest
+from tests.examples_tree import ExamplesTest
 
 
-class Examples(TreeTest):
+class Examples(ExamplesTest):
     """A folder of one example."""
 
     FILES = {f"examples/one.{ending}": "a line\nanother\n" for ending in ("batch", *examples.MADE)}
-
-    def setUp(self):
-        super().setUp()
-        folder = mock.patch.object(examples, "EXAMPLES", self.top / "examples")
-        folder.start()
-        self.addCleanup(folder.stop)
-
-    def assertNames(self, words):
-        """The folder is not taken, and the message has these words."""
-        self.write()
-        with self.assertRaisesRegex(examples.Disagreement, words):
-            examples.example_names()
 
     def test_a_whole_example(self):
         self.write()
