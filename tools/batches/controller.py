@@ -256,6 +256,19 @@ def outside_the_picture(rng):
     return joined(parts)
 
 
+def register_reads(rng):
+    """Every name read, in any order, with the registers written and a strike that is not read yet: which reads are driven, and which clear L."""
+    parts = []
+    for _ in range(rng.randint(4, 7)):
+        parts += [put(register, rng.choice((0, rng.randrange(256)))) for register in range(16)]
+        parts += [reset_controller(), strike()]
+        for name in rng.sample(range(32), 32):
+            parts.append(get(name | rng.choice((0, 32, 224))) + status())
+            if name in (16, 17):
+                parts.append(strike())
+    return joined(parts)
+
+
 def register_widths(rng):
     """Every register, named with and without bits above the fifth, written with any value."""
     parts = []

@@ -27,7 +27,7 @@ def read(record, body):
     """Kind 2."""
     driven, value = body[:2]
     if not driven:
-        return "not driven"
+        return "not driven, cannot be read back"
     return in_hex(value, 2) if record[2] else status(value)
 
 

@@ -21,8 +21,7 @@ REGISTERS = (
     "pen latch, low",
 )
 REGISTER_NUMBERS = 32  # that five bits can name
-LEFT_OUT, NOT_DRIVEN = "left out here", "not driven"  # R18 to R30, and R31
-READ_BACK = (14, 15, 16, 17)  # the registers that a read brings
+LEFT_OUT = "left out here"  # R18 to R31
 # Registers that are bits or parts of an address: their values are written in hex.
 IN_HEX = {3, 8, 10, 12, 13, 14, 15, 16, 17}
 
@@ -34,9 +33,7 @@ TICKS = {8: "fast", 16: "slow"}
 
 def register(number):
     """A register by its number, in words."""
-    if number < len(REGISTERS):
-        return REGISTERS[number]
-    return LEFT_OUT if number < REGISTER_NUMBERS - 1 else NOT_DRIVEN
+    return REGISTERS[number] if number < len(REGISTERS) else LEFT_OUT
 
 
 def control_bit(name):

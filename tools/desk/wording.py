@@ -5,7 +5,7 @@ import records
 from records import CONTROL, CONTROL_BITS, RECORD_BYTES, is_allowed, records_of
 from .refusals import why_not_allowed
 from .settings import LAST_WRITTEN, meaning
-from .vocabulary import READ_BACK, REGISTER_NUMBERS, control_bit, in_hex, register, register_value
+from .vocabulary import REGISTER_NUMBERS, control_bit, in_hex, register, register_value
 
 CHIPS = ("controller", "multiplexer")
 
@@ -97,7 +97,7 @@ def label_of(one, named):
         number = value % REGISTER_NUMBERS
         return f"{words_of(one)} ({'' if value == number else f'R{number}, '}{register(number)})"
     if kind == 2 and low:
-        return f"read {meant} ({register(named)}{'' if named in READ_BACK else ', cannot be read back'})"
+        return f"read {meant} ({register(named)})"
     words = words_of(one)
     name = control_name(256 * high + low) if kind == 6 and not value else None
     return f"{words} ({control_bit(name)})" if name else words

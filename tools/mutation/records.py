@@ -36,7 +36,7 @@ CHANGES = [
            "65,535 fetches are none"),
     Change("bench.rs", "self.controller.reset();", "self.controller.reset(); self.multiplexer.reset();",
            "a reset of the controller resets both chips"),
-    Change("bench.rs", "value.unwrap_or(0)", "value.unwrap_or(255)", "R31 reads as 255"),
+    Change("bench.rs", "value.unwrap_or(0)", "value.unwrap_or(255)", "what is not driven reads as 255"),
     Change("bench.rs", "controller.facts().picture;", "controller.pins().display_enable;",
            "the picture flag shows the delayed pin"),
     Change("bench.rs", "[cell.row, cell.column, 0, 0, 0, 0]", "[cell.column, cell.row, 0, 0, 0, 0]",

@@ -1,12 +1,15 @@
 """What the batches are made from: the seeds, the shares, the corners and the settings."""
+import collections
 import random
 import unittest
 
 from batches import DEAL, SHARES, SORT_NAMES, make_batch, settings
 from batches.controller import cell_address, cell_cut_off, frame_length
 from batches.seeds import FIXED_SEED, OF_COMMIT, WHOLE_RUN, seeds_of, share
-from compared import COUNTS, PROGRAMS, REPLAYS
-from records import KEPT_BITS, MOST_SETTINGS, SETTING_BYTES, are_settings, clocks, fetches, locate, put, settings_of
+from compared import COUNTS, LISTING, PROGRAMS, REPLAYS
+from records import (
+    KEPT_BITS, MOST_SETTINGS, RECORD_BYTES, SETTING_BYTES, are_settings, clocks, fetches, locate, put, read, reset_controller, select, settings_of, strike,
+)
 
 COMMIT = "0000199101234567" + 24 * "f"
 SEEDS = (FIXED_SEED, 1, 2)  # as many as a whole run has
@@ -53,10 +56,31 @@ class Batches(unittest.TestCase):
         for most in (clocks(65535), fetches(65535)):
             self.assertGreaterEqual(sum(most in given for given in inputs), 4)
 
+    def test_each_of_the_32_names_is_read_often_with_a_strike_unread_and_without(self):
+        reads = collections.Counter(read for number in BATCHES for read in reads_of(make_batch(FIXED_SEED, number)))
+        for name in range(32):
+            self.assertGreaterEqual(reads[name, True], OFTEN, f"R{name} after a strike")
+            self.assertGreaterEqual(reads[name, False], OFTEN, f"R{name} before one")
+
     def test_a_struck_cell_is_cut_off_by_the_ends_of_line_and_frame(self):
         cut = [put(0, 1), locate(), put(0, 5), put(4, 0), locate(), put(4, 3), locate()]
         self.assertEqual(cell_cut_off({0: 5, 4: 3}, 1, 2), b"".join(cut))
         self.assertEqual(cell_cut_off({0: 5, 4: 3}, 0, 0), locate())
+
+
+def reads_of(batch):
+    """The register reads of a batch for the listing: each with the name, and whether a strike waits to be read."""
+    named, waits = 0, False
+    for at in range(0, len(batch.input) if batch.program is LISTING else 0, RECORD_BYTES):
+        one = batch.input[at:at + RECORD_BYTES]
+        if one == read():
+            yield named, waits
+        if one in (read(), reset_controller()):
+            waits = waits and one == read() and named not in (16, 17)
+        elif one == strike():
+            waits = True
+        elif one[:3] == select(0)[:3]:
+            named = one[3] % 32
 
 
 def registers_of(setting):

@@ -16,7 +16,7 @@ ANSWERED = (
     ("status", "0200014000000000", "$40, L (a strike not read yet)"),
     ("status", "0200016000000000", "$60, L (a strike not read yet), V (the rows shown are over)"),
     ("read", "0200014000000000", "$40"),
-    ("read", "0200000000000000", "not driven"),
+    ("read", "0200000000000000", "not driven, cannot be read back"),
     ("clock 1", "0300000100130000", "MA $0001, RA 0, picture, display enable, VSYNC"),
     ("clock 1", "03003fff1f0c0000", "MA $3FFF, RA 31, outside the picture, cursor, HSYNC"),
     ("clock 1", "0300000000000000", "MA $0000, RA 0, outside the picture"),

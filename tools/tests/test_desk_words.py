@@ -217,8 +217,8 @@ class Writing(unittest.TestCase):
         data = read_line("write 3; R6 = 25; write 9; select $46; read; select R20; bytes 01 00 02 05; read")
         self.assertEqual(labels_of(data), [
             "R0 = 3 (4 characters in a line)", "select R6 (rows shown)", "R6 = 25 (25 rows shown)", "R6 = 9 (9 rows shown)", "select $46 (R6, rows shown)",
-            "read R6 (rows shown, cannot be read back)", "select R20 (left out here)",
-            "bytes 01 00 02 05, controller write: lo is 2 and has to be 0 or 1", "read R20 (left out here, cannot be read back)"])
+            "read R6 (rows shown)", "select R20 (left out here)",
+            "bytes 01 00 02 05, controller write: lo is 2 and has to be 0 or 1", "read R20 (left out here)"])
         self.assertEqual(labels_of(read_line("read R17"))[1], "read R17 (pen latch, low)")
 
     def test_pairs_are_found_from_the_left(self):

@@ -1,7 +1,7 @@
--- Register reads (document 01, "Controller registers"; kind 2 of the table of kinds).
+-- Register reads (document 01, "Controller registers"; kind 2 of the table of kinds; document 02, W2).
 use Prim.Native.Nat.{ℕ, _+_, _*_}
-use mathlib.Core.Bool.{Bool, true, not, _||_}
-use lib.Dec.{eqb, leb}
+use mathlib.Core.Bool.{Bool, true, false, _&&_, _||_}
+use lib.Dec.{eqb, leb, ltb}
 use Rattle.basics.specs.Choice.{if_then_else_}
 use Rattle.basics.specs.Bits.{num, highOf, lowOf}
 use Rattle.raster.specs.Registers.{reg}
@@ -18,24 +18,26 @@ blankOf c = c .scan .adjusting || leb (reg (c .regs) 6) (c .scan .row)
 unfoldable pub statusOf : Controller → ℕ
 statusOf c = num (unreadOf (c .pen)) * 64 + num (blankOf c) * 32
 
--- what a read of register k brings: R14 and R15 as held, R16 and R17 the high and low byte of the newest strike's latch, all others 0
+-- what stands in register k, up to R17: in R0 to R15 the byte held, in R16 and R17 the high and the low byte of the newest strike's latch
 unfoldable pub valueOf : Controller → ℕ → ℕ
 valueOf c k =
-    if eqb k 14 then reg (c .regs) 14 else (if eqb k 15 then reg (c .regs) 15
-    else (if eqb k 16 then highOf (newestOf (c .pen) .latch) else (if eqb k 17 then lowOf (newestOf (c .pen) .latch) else 0)))
+    if ltb k 16 then reg (c .regs) k else (if eqb k 16 then highOf (newestOf (c .pen) .latch) else lowOf (newestOf (c .pen) .latch))
 
--- register 31 alone is not driven
+-- the registers that drive the bus when they are read: R14 to R17 and no other (document 02, W2)
 abbrev pub drivenOf : ℕ → Bool
-drivenOf k = not (eqb k 31)
+drivenOf k = leb 14 k && leb k 17
 
 -- reading R16 or R17 clears L
 unfoldable pub afterReadOf : Controller → ℕ → Controller
 afterReadOf c k = if eqb k 16 || eqb k 17 then withPen (emptiedOf (c .pen)) c else c
 
--- RS 1 reads the named register. Decision: the answer is what stood there before the read cleared L.
+-- RS 1 reads the named register, if it drives the bus; if not, the read brings 0 and changes nothing.
+-- Decision: the answer is what stood there before the read cleared L.
 unfoldable pub registerReadOf : Controller → Reading
 registerReadOf c =
-    record { driven = drivenOf (c .regs .named); value = valueOf c (c .regs .named); controller = afterReadOf c (c .regs .named) }
+    if drivenOf (c .regs .named)
+    then record { driven = true; value = valueOf c (c .regs .named); controller = afterReadOf c (c .regs .named) }
+    else record { driven = false; value = 0; controller = c }
 
 -- RS 0 reads status, always driven, and changes nothing
 unfoldable pub statusReadOf : Controller → Reading

@@ -46,23 +46,19 @@ impl Controller {
         low(self.pen.newest().latch)
     }
 
+    // What stands in register k, up to R17.
     fn value(self, k: u8) -> u8
         ensures { λ v. ⌜ v ≡ valueOf self k ⌝ }
     {
         let r = self.regs;
-        if k == 14 {
-            return r.held[14];
-        }
-        if k == 15 {
-            return r.held[15];
+        let at = k as usize;
+        if at < 16 {
+            return r.held[at];
         }
         if k == 16 {
             return self.latch_high();
         }
-        if k == 17 {
-            return self.latch_low();
-        }
-        0
+        self.latch_low()
     }
 
     // L cleared.
@@ -83,14 +79,22 @@ impl Controller {
         self
     }
 
+    // The named register, if it is one that drives the bus.
     fn register_read(self) -> Reading
         ensures { λ o. ⌜ o ≡ registerReadOf self ⌝ }
     {
         let k = self.regs.named;
+        if (14 <= k) & (k <= 17) {
+            return Reading {
+                driven: true,
+                value: self.value(k),
+                controller: self.after_read(k),
+            };
+        }
         Reading {
-            driven: k != 31,
-            value: self.value(k),
-            controller: self.after_read(k),
+            driven: false,
+            value: 0,
+            controller: self,
         }
     }
 

@@ -1,2 +1,3 @@
 pub mod OnTheBench
+pub mod Reading
 pub mod Refusals

@@ -33,8 +33,10 @@ use Rattle.bench.specs.declared.step.Bench.{Bench}
 use Rattle.alone.specs.Records.{writeRecordOf, clockRecordOf, strikeRecordOf}
 use Rattle.every_record.specs.Refusals.{Refusals as BenchRefusals}
 use Rattle.every_record.specs.Alone.{AsOnTheBench}
+use Rattle.every_record.specs.Reads.{Reads}
 use Rattle.every_record.proofs.Refusals.{refusals as bench-refusals}
 use Rattle.every_record.proofs.OnTheBench.{as-on-the-bench}
+use Rattle.every_record.proofs.Reading.{reads}
 use Rattle.replay.specs.Run.{runOf, replayOf, outputOf}
 use Rattle.replay.specs.Rest.{restOf, restAt}
 use Rattle.every_replay.specs.Runs.{Sound, Runs}
@@ -234,3 +236,8 @@ decimal-digits = digits
 
 pub report-text : States report-text·tell.Post (λ κs a r s. (r ≡ length (reportTextOf (now (a .0)))) × (now (s .1 .0) ≡ laidAt (now (a .1 .0)) 0 (reportTextOf (now (a .0)))))
 report-text κs a r s p = (p .1 .0, p .1 .1 .0)
+
+-- ---- which reads are driven
+
+pub reads-driven : (b : Bench) → Reads b
+reads-driven = reads

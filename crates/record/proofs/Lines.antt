@@ -1,13 +1,13 @@
--- The lines of the table that a controller alone can meet, and the two cases of a checked event. Assumes nothing.
+-- The lines of the table that a controller alone can meet, the two records that read, and the two cases of a checked event. Assumes nothing.
 use Prim.Native.Nat.{ℕ}
 use mathlib.Core.Path.{_≡_, refl}
 use mathlib.Core.Bool.{Bool, true, false, _&&_}
 use lib.Dec.{eqb, leb}
-use Rattle.basics.specs.Bits.{wordOf}
+use Rattle.basics.specs.Bits.{num, wordOf}
 use Rattle.basics.specs.Choice.{if_then_else_}
 use Rattle.record.specs.Decode.{lookedUp, checkedOf, decodeOf}
 use Rattle.record.specs.declared.event.Event.{Event}
-use Rattle.record.specs.declared.event.Event.the-variants.{Write, Clocks, Strike}
+use Rattle.record.specs.declared.event.Event.the-variants.{Write, Read, Clocks, Strike}
 use Rattle.record.specs.declared.kinds.Decoded.{Decoded}
 use Rattle.record.specs.declared.kinds.Decoded.the-variants.{Known, Refused}
 use Rattle.record.specs.declared.kinds.Refusal.the-variants.{Field}
@@ -24,6 +24,12 @@ module _ (hi lo value : ℕ) where
   pub strike-line : decodeOf 4 hi lo value ≡ checkedOf (eqb hi 0 && eqb lo 0 && eqb value 0) Strike
   unfolding decodeOf lookedUp if_then_else_
   strike-line = refl
+
+-- a read has its RS in lo and zero fields else
+pub read-record : (rs : Bool) → decodeOf 2 0 (num rs) 0 ≡ Known (Read rs)
+unfolding decodeOf lookedUp checkedOf if_then_else_
+read-record true = refl
+read-record false = refl
 
 -- what holds of the event and of its refusal holds of it checked
 pub checked-either : (P : Decoded → Type 0) (fields : Bool) (e : Event) → P (Known e) → P (Refused Field) → P (checkedOf fields e)

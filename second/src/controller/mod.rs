@@ -80,8 +80,9 @@ impl Controller {
         }
     }
 
-    /// A read: RS 0 gives the status, RS 1 the named register, or nothing where
-    /// the chip leaves the bus alone ("Controller registers").
+    /// A read: RS 0 gives the status, whatever is named ("Controller registers").
+    /// RS 1 gives the cursor's address or the latch, R14 to R17; any other name
+    /// leaves the bus alone, even one that was written to (request W2).
     pub fn read(&mut self, rs: u8) -> Option<u8> {
         if rs == 0 {
             return Some(self.status());
@@ -99,8 +100,7 @@ impl Controller {
                 self.pen.note_latch_read();
                 Some(latch_low)
             }
-            31 => None,
-            _ => Some(0),
+            _ => None,
         }
     }
 

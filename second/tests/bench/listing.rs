@@ -52,6 +52,20 @@ fn refused_records_are_listed_with_their_numbers() {
 }
 
 #[test]
+fn reads_are_listed_as_driven_or_not() {
+    let read = [2, 0, 1, 0];
+    for (register, line) in [
+        (13, "0200000000000000\n"),
+        (15, "0200015500000000\n"),
+        (18, "0200000000000000\n"),
+    ] {
+        let input = [[1, 0, 0, register], [1, 0, 1, 0x55], read].concat();
+        let expected = "0100000000000000\n".repeat(2) + line + "end 0\n";
+        assert_eq!(listing(&input), expected, "R{register}");
+    }
+}
+
+#[test]
 fn the_longest_batch_is_listed_and_a_longer_one_is_not() {
     let mut expected = "0400000200000000\n".repeat(1_024);
     expected.push_str("end 0\n");

@@ -49,25 +49,89 @@ fn writes_to_16_and_above_do_nothing() {
     }
 }
 
-#[test]
-fn reads_give_r14_to_r17_nothing_driven_at_r31_and_zero_elsewhere() {
+/// R0 to R15 all written and none of them 0, then a strike that nobody has read.
+fn written_and_struck() -> Trial {
     let mut trial = Trial::fresh();
     for register in 0..16 {
         trial.set(register, 0xFF);
     }
     trial.set_all(&[(12, 0x12), (13, 0x34)]);
     trial.reset_controller();
-    trial.strike();
-    for register in 0..32 {
-        let expected = match register {
-            14 => (1, 0x3F),
-            15 => (1, 0xFF),
-            16 => (1, 0x12),
-            17 => (1, 0x36),
-            31 => (0, 0),
-            _ => (1, 0),
-        };
-        assert_eq!(trial.read(register), expected, "R{register}");
+    assert_eq!(trial.strike(), (0x1236, 1));
+    let held = trial.bench.controller.registers().all_held();
+    assert!(held.iter().all(|value| *value != 0), "{held:?}");
+    trial
+}
+
+/// What a read of each name is to give there: (driven, value).
+fn due_when_written_and_struck(name: u8) -> (u8, u8) {
+    match name {
+        14 => (1, 0x3F),
+        15 => (1, 0xFF),
+        16 => (1, 0x12),
+        17 => (1, 0x36),
+        _ => (0, 0),
+    }
+}
+
+fn names_the_latch(name: u8) -> bool {
+    name == 16 || name == 17
+}
+
+#[test]
+fn of_the_32_names_only_r14_to_r17_are_driven_and_the_others_read_0() {
+    for name in 0..32 {
+        let due = due_when_written_and_struck(name);
+        let mut trial = written_and_struck();
+        assert_eq!(trial.read(name), due, "R{name}");
+        assert_eq!(trial.read(name), due, "R{name} once more");
+    }
+}
+
+#[test]
+fn r14_to_r17_are_driven_even_when_they_hold_0() {
+    let mut trial = Trial::fresh();
+    for name in 0..32 {
+        let driven = u8::from((14..=17).contains(&name));
+        assert_eq!(trial.read(name), (driven, 0), "R{name}");
+    }
+}
+
+#[test]
+fn the_top_bits_of_a_name_have_no_say_in_what_is_driven() {
+    let mut trial = written_and_struck();
+    for byte in 0..=255 {
+        let due = due_when_written_and_struck(byte % 32);
+        assert_eq!(trial.read(byte), due, "name {byte:#04x}");
+    }
+}
+
+#[test]
+fn a_read_changes_nothing_but_l_and_that_only_at_r16_and_r17() {
+    for name in 0..32 {
+        let mut trial = written_and_struck();
+        trial.body([1, 0, 0, name]);
+        let before = trial.bench;
+        trial.body([2, 0, 1, 0]);
+        if names_the_latch(name) {
+            assert_eq!(trial.status(), 0, "R{name}");
+            trial.strike();
+        }
+        assert_eq!(trial.bench, before, "R{name}");
+        assert_eq!(trial.status(), L, "R{name}");
+    }
+}
+
+#[test]
+fn status_is_driven_whatever_register_is_named() {
+    for name in 0..32 {
+        let mut trial = written_and_struck();
+        trial.body([1, 0, 0, name]);
+        assert_eq!(trial.body([2, 0, 0, 0]), [1, L, 0, 0, 0, 0], "R{name}");
+        trial.body([2, 0, 1, 0]);
+        let left = if names_the_latch(name) { 0 } else { L };
+        let status = trial.body([2, 0, 0, 0]);
+        assert_eq!(status, [1, left, 0, 0, 0, 0], "R{name} was read");
     }
 }
 
@@ -78,7 +142,7 @@ fn a_strike_sets_l_and_only_reading_the_latch_clears_it() {
         assert_eq!(trial.status(), 0);
         trial.strike();
         assert_eq!(trial.status(), L);
-        for register in (0..32).filter(|number| *number != 16 && *number != 17) {
+        for register in (0..32).filter(|number| !names_the_latch(*number)) {
             trial.read(register);
         }
         trial.locate().expect("a cell is found");

@@ -11,41 +11,19 @@ returns : tie.Need-returns
 unfolding valueOf
 returns c = search cases depth 9
 
-element-copy-out-result-2 : tie.Need-element-copy-out-result-2
-element-copy-out-result-2 c = search needs
+latch-high-requires : tie.Need-latch-high-requires
+latch-high-requires c κs = search needs
 
 returns-2 : tie.Need-returns-2
 unfolding valueOf
 returns-2 c = search cases depth 9
 
-latch-high-requires : tie.Need-latch-high-requires
-latch-high-requires c κs = search needs
+latch-low-requires : tie.Need-latch-low-requires
+latch-low-requires c κs = search needs
 
 returns-3 : tie.Need-returns-3
 unfolding valueOf
 returns-3 c = search cases depth 9
 
-latch-low-requires : tie.Need-latch-low-requires
-latch-low-requires c κs = search needs
-
-returns-4 : tie.Need-returns-4
-unfolding valueOf
-returns-4 c = search cases depth 9
-
-returns-5 : tie.Need-returns-5
-unfolding valueOf
-returns-5 c = search cases depth 9
-
 pub value-spec : {M : Type 1} → statement M
-value-spec =
-    tie.close
-    (tie.spec
-    element-copy-out-result
-    returns
-    element-copy-out-result-2
-    returns-2
-    latch-high-requires
-    returns-3
-    latch-low-requires
-    returns-4
-    returns-5)
+value-spec = tie.close (tie.spec element-copy-out-result returns latch-high-requires returns-2 latch-low-requires returns-3)
