@@ -16,7 +16,7 @@ SUMS = {
     "crates/decimal/specs/Decimal.antt": "a7053a9c0a329c3d",
     "crates/demand/specs/Demand.antt": "9f6bec85ca237f9a",
     "crates/every_record/specs/Alone.antt": "a8717d975bede313",
-    "crates/every_record/specs/Reads.antt": "57d82985714b0c26",
+    "crates/every_record/specs/Reads.antt": "0b2065e4011c4ef5",
     "crates/every_record/specs/Refusals.antt": "3053fc621f83204d",
     "crates/every_replay/specs/Runs.antt": "4b0a4dff2d7d8558",
     "crates/frames/specs/Calls.antt": "f9246236986c1748",
