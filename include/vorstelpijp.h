@@ -27,6 +27,7 @@ struct controller {
 
 struct found { u8 refusal, row, column; };
 struct outputs { u16 ma; u8 ra; _Bool picture, display, cursor, hsync, vsync; };
+/* A read drives the bus for R14 to R17 and for the status. Where driven is 0, value is 0 and says nothing of what the register holds. */
 struct reading { _Bool driven; u8 value; struct controller controller; };
 struct display { u16 b; u8 x, y; };
 

@@ -98,6 +98,7 @@ GOOD_SORTS = (
     controller.pictures,
     controller.no_cell_fits,
     controller.outside_the_picture,
+    controller.register_reads,
     multiplexer.multiplexer_work,
 )
 

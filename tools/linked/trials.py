@@ -78,7 +78,7 @@ def any_control(rng):
 MAKERS = (
     every_character, every_field, every_strike, every_mode, any_control,
     controller.pictures, controller.pictures, controller.pictures,
-    controller.collisions, controller.no_cell_fits, controller.outside_the_picture, controller.register_widths,
+    controller.collisions, controller.no_cell_fits, controller.outside_the_picture, controller.register_widths, controller.register_reads,
 )
 
 
@@ -91,8 +91,11 @@ def all_trials():
 def unseen(lines):
     """What the listings of all batches should show and do not, in words; None where they show all of it."""
     answers = [bytes.fromhex(line[:16]) for line in lines]
+    driven = {answer[2] for answer in answers if answer[0] == 2}
     shown = [answer[5] for answer in answers if answer[0] == 3]
     located = {answer[1] for answer in answers if answer[0] == 9}
+    if driven != {0, 1}:
+        return "a read that is driven, and one that is not"
     for bit in (1, 2, 4, 8, 16):
         if len({flags & bit for flags in shown}) < 2:
             return f"a character time with the flag {bit} set, and one with it clear"

@@ -30,6 +30,7 @@ OF_REGISTERS = [
            "reading the status clears L"),
     Change(WHOLE, "14 => Some(cursor_high),", "14 if cursor_high > 0 => Some(cursor_high),", "R14 is not driven while it holds 0"),
     Change(WHOLE, "15 => Some(cursor_low),", "", "R15 is not driven"),
+    Change(WHOLE, "let [latch_high, latch_low]", "let [latch_low, latch_high]", "R16 and R17 bring each other's byte"),
     Change(WHOLE, "_ => None,", "13 => self.registers.held(13), _ => None,", "R13 can be read"),
     Change(WHOLE, "_ => None,", "18 => Some(0), _ => None,", "R18 is driven"),
     Change(WHOLE, "_ => None,", "18..=30 => Some(0), _ => None,", "of the registers past the latch, only R31 is not driven"),

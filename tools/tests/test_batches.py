@@ -8,7 +8,8 @@ from batches.controller import cell_address, cell_cut_off, frame_length
 from batches.seeds import FIXED_SEED, OF_COMMIT, WHOLE_RUN, seeds_of, share
 from compared import COUNTS, LISTING, PROGRAMS, REPLAYS
 from records import (
-    KEPT_BITS, MOST_SETTINGS, RECORD_BYTES, SETTING_BYTES, are_settings, clocks, fetches, locate, put, read, reset_controller, select, settings_of, strike,
+    KEPT_BITS, MOST_BATCH_BYTES, MOST_SETTINGS, SETTING_BYTES, are_settings, clocks, fetches, is_allowed, locate, put, read, records_of,
+    reset_controller, select, settings_of, strike,
 )
 
 COMMIT = "0000199101234567" + 24 * "f"
@@ -57,7 +58,7 @@ class Batches(unittest.TestCase):
             self.assertGreaterEqual(sum(most in given for given in inputs), 4)
 
     def test_each_of_the_32_names_is_read_often_with_a_strike_unread_and_without(self):
-        reads = collections.Counter(read for number in BATCHES for read in reads_of(make_batch(FIXED_SEED, number)))
+        reads = collections.Counter(one for number in BATCHES for one in reads_of(make_batch(FIXED_SEED, number)))
         for name in range(32):
             self.assertGreaterEqual(reads[name, True], OFTEN, f"R{name} after a strike")
             self.assertGreaterEqual(reads[name, False], OFTEN, f"R{name} before one")
@@ -69,10 +70,10 @@ class Batches(unittest.TestCase):
 
 
 def reads_of(batch):
-    """The register reads of a batch for the listing: each with the name, and whether a strike waits to be read."""
+    """The register reads that the listing answers in a batch: each with the name, and whether a strike waits to be read."""
     named, waits = 0, False
-    for at in range(0, len(batch.input) if batch.program is LISTING else 0, RECORD_BYTES):
-        one = batch.input[at:at + RECORD_BYTES]
+    answered = batch.program is LISTING and len(batch.input) <= MOST_BATCH_BYTES
+    for one in filter(is_allowed, records_of(batch.input) if answered else ()):
         if one == read():
             yield named, waits
         if one in (read(), reset_controller()):

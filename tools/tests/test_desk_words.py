@@ -219,7 +219,8 @@ class Writing(unittest.TestCase):
             "R0 = 3 (4 characters in a line)", "select R6 (rows shown)", "R6 = 25 (25 rows shown)", "R6 = 9 (9 rows shown)", "select $46 (R6, rows shown)",
             "read R6 (rows shown)", "select R20 (left out here)",
             "bytes 01 00 02 05, controller write: lo is 2 and has to be 0 or 1", "read R20 (left out here)"])
-        self.assertEqual(labels_of(read_line("read R17"))[1], "read R17 (pen latch, low)")
+        for given, label in (("read R17", "read R17 (pen latch, low)"), ("read R18", "read R18 (left out here)"), ("read R31", "read R31 (left out here)")):
+            self.assertEqual(labels_of(read_line(given))[1], label)
 
     def test_pairs_are_found_from_the_left(self):
         data = read_line("select R1; select R2; write 5; read")

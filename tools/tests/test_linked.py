@@ -13,6 +13,7 @@ from kit import INCLUDE
 from linked.header import HEADER, check_header
 from linked.layout import proved_declarations
 from linked.sources import Sources, Unfit
+from linked.trials import unseen
 
 COMPILER = ["gcc"]
 PEN = "struct pen { struct strike last; _Bool any, full; };"
@@ -188,6 +189,20 @@ class Declarations(unittest.TestCase):
                 self.proved(file, old, new)
             with self.subTest(f"{what}: the words"):
                 self.assertIn(words, str(refused.exception))
+
+
+class Shown(unittest.TestCase):
+    """What the batches that go through C have to show, each sort of answer among them."""
+
+    ENOUGH = ["0200014000000000", "0200000000000000", "0300000000000000", "03000000001f0000"] + [f"09{number:02x}" + 12 * "0" for number in (0, 5, 6, 7, 8)]
+
+    def test_enough(self):
+        self.assertIsNone(unseen(self.ENOUGH))
+
+    def test_each_is_missed(self):
+        for line in self.ENOUGH:
+            with self.subTest(line):
+                self.assertIsNotNone(unseen([other for other in self.ENOUGH if other != line]))
 
 
 if __name__ == "__main__":

@@ -18,7 +18,8 @@ blankOf c = c .scan .adjusting || leb (reg (c .regs) 6) (c .scan .row)
 unfoldable pub statusOf : Controller → ℕ
 statusOf c = num (unreadOf (c .pen)) * 64 + num (blankOf c) * 32
 
--- what stands in register k, up to R17: in R0 to R15 the byte held, in R16 and R17 the high and the low byte of the newest strike's latch
+-- what stands in register k, up to R17: in R0 to R15 the byte held, in R16 and R17 the high and the low byte of the newest strike's latch.
+-- A read asks it of those four alone that drive the bus.
 unfoldable pub valueOf : Controller → ℕ → ℕ
 valueOf c k =
     if ltb k 16 then reg (c .regs) k else (if eqb k 16 then highOf (newestOf (c .pen) .latch) else lowOf (newestOf (c .pen) .latch))
