@@ -29,8 +29,13 @@ pub fn listing(batch: &[u8]) -> String {
         text.push_str(&answer_line(answer));
         text.push('\n');
     }
-    text.push_str(&format!("end {}\n", replayed.ending.number()));
+    text.push_str(&end_line(replayed.ending.number()));
     text
+}
+
+/// The line after all answers.
+pub fn end_line(ending: u8) -> String {
+    format!("end {ending}\n")
 }
 
 /// An answer as hex digits, with the old program's remark where it is due.

@@ -1,5 +1,5 @@
-//! The program: a batch on standard input, and on standard output its listing,
-//! its whole output or its counts.
+//! The program: a batch or the bytes of a serial line on standard input, and on
+//! standard output its listing, its whole output or its counts.
 
 use std::env;
 use std::ffi::OsString;
@@ -7,9 +7,11 @@ use std::io::{self, Read, Write};
 use std::process::ExitCode;
 
 use second::counts::{counts_text, places_text, MOST_COUNTS_INPUT_BYTES, MOST_PLACES_INPUT_BYTES};
+use second::cuts::{cuts_text, MOST_CUTS_INPUT_BYTES};
 use second::listing::{listing, MOST_INPUT_BYTES};
 use second::mode::{Mode, HELP};
 use second::room::{room_text, MOST_ROOM_INPUT_BYTES};
+use second::serial::{serial, SerialFailure};
 
 const READING_OR_WRITING_FAILED: u8 = 1;
 const ARGUMENT_REFUSED: u8 = 2;
@@ -37,13 +39,22 @@ fn run(mode: Mode) -> Result<(), String> {
         Mode::Room => room_text(&read(MOST_ROOM_INPUT_BYTES)?),
         Mode::Counts => counts_text(&read(MOST_COUNTS_INPUT_BYTES)?),
         Mode::Places => places_text(&read(MOST_PLACES_INPUT_BYTES)?),
+        Mode::Cuts => cuts_text(&read(MOST_CUTS_INPUT_BYTES)?),
+        Mode::Serial => return run_serial(),
         Mode::Help => String::from(HELP),
     };
     let mut output = io::stdout().lock();
     output
         .write_all(text.as_bytes())
         .and_then(|()| output.flush())
-        .map_err(|error| format!("cannot write the output: {error}"))
+        .map_err(cannot_write)
+}
+
+fn run_serial() -> Result<(), String> {
+    serial(io::stdin().lock(), io::stdout().lock()).map_err(|failure| match failure {
+        SerialFailure::Reading(error) => cannot_read(error),
+        SerialFailure::Writing(error) => cannot_write(error),
+    })
 }
 
 /// Reads one byte more than is allowed, so that an input too long is noticed.
@@ -53,6 +64,14 @@ fn read(most: usize) -> Result<Vec<u8>, String> {
         .lock()
         .take(most as u64 + 1)
         .read_to_end(&mut input)
-        .map_err(|error| format!("cannot read the batch: {error}"))?;
+        .map_err(cannot_read)?;
     Ok(input)
+}
+
+fn cannot_read(error: io::Error) -> String {
+    format!("cannot read the batch: {error}")
+}
+
+fn cannot_write(error: io::Error) -> String {
+    format!("cannot write the output: {error}")
 }

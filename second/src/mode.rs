@@ -8,12 +8,14 @@ pub enum Mode {
     Room,
     Counts,
     Places,
+    Serial,
+    Cuts,
     Help,
 }
 
 pub const HELP: &str = "\
 second: replays a batch of records on a 6545-1 controller and an MC6883 multiplexer,
-        and counts what the frames of settings do
+        takes records off a serial line, and counts what the frames of settings do
 
   second < batch              prints the listing of a batch of at most 4,096 bytes:
                               a line for each answer, then `end` and the ending number
@@ -33,6 +35,14 @@ second: replays a batch of records on a 6545-1 controller and an MC6883 multiple
                               prints the refusal number (0, 10 or 11), then every place
                               as hex, which holds a5a5a5a5a5a5a5a5 where nothing was
                               written
+  second --serial < bytes     takes bytes as they come and as many as come; prints a
+                              line of the listing as soon as a record is whole, and
+                              `end` with the ending number when the input ends
+  second --cuts < calls       takes a list of calls on one line, at most 4,096 bytes of
+                              it: a byte 1, room and length in two bytes each (high
+                              byte first) and a cut of that length; or a byte 2, which
+                              closes the line; prints for each call what --room does,
+                              for closing without an output; or just `no call`
   second --help               prints this text
 ";
 
@@ -47,6 +57,8 @@ impl Mode {
             Some("--room") => Mode::Room,
             Some("--counts") => Mode::Counts,
             Some("--places") => Mode::Places,
+            Some("--serial") => Mode::Serial,
+            Some("--cuts") => Mode::Cuts,
             Some("--help") => Mode::Help,
             _ => return Err(unexpected("unknown", argument)),
         };

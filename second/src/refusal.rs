@@ -13,7 +13,7 @@ pub enum Refusal {
 impl Refusal {
     /// The number that stands in the answer's second byte (table of refusals,
     /// section "Records and what comes back"). Numbers 3 and 4 end a replay and
-    /// are kept with the endings, 10 and 11 with the counts.
+    /// are kept with the endings, 10 and 11 with the counts, 12 with the line.
     pub fn number(self) -> u8 {
         match self {
             Refusal::UnknownKind => 1,

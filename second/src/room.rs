@@ -4,7 +4,7 @@
 use crate::bench::Bench;
 use crate::hex::hex;
 use crate::listing::{MOST_INPUT_BYTES, TOO_LONG};
-use crate::replay::{replay, Replayed, ANSWER_BYTES};
+use crate::replay::{replay, ANSWER_BYTES};
 
 /// The room comes first in the input, high byte before low byte.
 const ROOM_FIELD_BYTES: usize = 2;
@@ -18,7 +18,7 @@ const MOST_ROOM: usize = 8_192;
 /// All that is printed for an input that does not name its room.
 pub const NO_ROOM: &str = "no room\n";
 
-/// What the output holds before the replay, so that writing past the answers shows.
+/// What an output holds before, so that writing past the answers shows.
 const UNTOUCHED: u8 = 0xA5;
 
 /// The counts and the whole output of a batch replayed on fresh chips, or just
@@ -30,24 +30,27 @@ pub fn room_text(input: &[u8]) -> String {
     let Some((field, batch)) = input.split_first_chunk::<ROOM_FIELD_BYTES>() else {
         return String::from(NO_ROOM);
     };
-    let room = usize::from(u16::from_be_bytes(*field)).min(MOST_ROOM);
-    let mut output = vec![UNTOUCHED; room];
+    let mut output = untouched_output(u16::from_be_bytes(*field));
     let replayed = replay(Bench::fresh(), batch, &mut output);
-
-    let mut text = line(&counts(&replayed));
-    for part in output.chunks(ANSWER_BYTES) {
-        text.push_str(&line(part));
-    }
-    text
+    counts_line(
+        replayed.ending.number(),
+        replayed.bytes_taken,
+        replayed.answers_written,
+    ) + &output_lines(&output)
 }
 
-/// What a replay returns besides the chips: ending number, bytes taken and
-/// answers written, filled up with zeros to the length of an answer.
-fn counts(replayed: &Replayed) -> [u8; ANSWER_BYTES] {
-    let [taken_high, taken_low] = two_bytes(replayed.bytes_taken);
-    let [written_high, written_low] = two_bytes(replayed.answers_written);
-    [
-        replayed.ending.number(),
+/// An output of the room asked for, or of the greatest there is.
+pub(crate) fn untouched_output(room: u16) -> Vec<u8> {
+    vec![UNTOUCHED; usize::from(room).min(MOST_ROOM)]
+}
+
+/// What is told of a replay or of a call on a line: ending number, bytes taken
+/// and answers written, filled up with zeros to the length of an answer.
+pub(crate) fn counts_line(ending: u8, bytes_taken: usize, answers_written: usize) -> String {
+    let [taken_high, taken_low] = two_bytes(bytes_taken);
+    let [written_high, written_low] = two_bytes(answers_written);
+    line(&[
+        ending,
         taken_high,
         taken_low,
         written_high,
@@ -55,11 +58,16 @@ fn counts(replayed: &Replayed) -> [u8; ANSWER_BYTES] {
         0,
         0,
         0,
-    ]
+    ])
 }
 
-/// The low two bytes, high one first. Both counts fit: a batch has at most
-/// 4,096 bytes.
+/// The whole output, the last line shorter when it must be.
+pub(crate) fn output_lines(output: &[u8]) -> String {
+    output.chunks(ANSWER_BYTES).map(line).collect()
+}
+
+/// The low two bytes, high one first. Both counts fit: neither a batch nor a cut
+/// has more than 4,096 bytes here.
 fn two_bytes(count: usize) -> [u8; 2] {
     let [.., high, low] = count.to_be_bytes();
     [high, low]

@@ -15,6 +15,8 @@ fn each_mode_by_its_argument() {
     assert_eq!(asked_for(&["--room"]), Ok(Mode::Room));
     assert_eq!(asked_for(&["--counts"]), Ok(Mode::Counts));
     assert_eq!(asked_for(&["--places"]), Ok(Mode::Places));
+    assert_eq!(asked_for(&["--serial"]), Ok(Mode::Serial));
+    assert_eq!(asked_for(&["--cuts"]), Ok(Mode::Cuts));
     assert_eq!(asked_for(&["--help"]), Ok(Mode::Help));
 }
 
@@ -30,6 +32,9 @@ fn any_other_argument_is_named_in_the_message() {
         "--count",
         "counts",
         "--place",
+        "--line",
+        "serial",
+        "--cut",
     ] {
         let message = asked_for(&[unknown]).expect_err("it is refused");
         assert!(message.starts_with(&format!("unknown argument `{unknown}` ")));

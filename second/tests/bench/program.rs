@@ -157,6 +157,8 @@ fn the_program_tells_of_every_mode() {
         "second --room < input",
         "second --counts < settings",
         "second --places < input",
+        "second --serial < bytes",
+        "second --cuts < calls",
         "second --help",
     ] {
         assert!(HELP.contains(&format!("\n  {call} ")), "{call}");
@@ -165,12 +167,14 @@ fn the_program_tells_of_every_mode() {
 
 #[test]
 fn the_program_refuses_arguments_it_does_not_know() {
-    let refused: [(&[&str], &str); 5] = [
+    let refused: [(&[&str], &str); 7] = [
         (&["--rooms"], "second: unknown argument `--rooms`"),
         (&["batch.bin"], "second: unknown argument `batch.bin`"),
         (&["--room", "8"], "second: superfluous argument `8`"),
         (&["--count"], "second: unknown argument `--count`"),
         (&["--places", "8"], "second: superfluous argument `8`"),
+        (&["--serials"], "second: unknown argument `--serials`"),
+        (&["--cuts", "8"], "second: superfluous argument `8`"),
     ];
     for (arguments, message) in refused {
         let output = run(arguments, &[4, 0, 0, 0]);

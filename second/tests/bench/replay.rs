@@ -7,7 +7,7 @@ use crate::trial::SETTING_A;
 const UNTOUCHED: u8 = 0xEE;
 
 /// Records that move both chips: setting A, then a little of everything.
-fn batch() -> Vec<u8> {
+pub fn batch() -> Vec<u8> {
     let mut records = Vec::new();
     for (register, value) in SETTING_A {
         records.extend([1, 0, 0, register, 1, 0, 1, value]);
@@ -150,10 +150,10 @@ fn the_unread_rest_is_the_tail_of_the_batch_itself() {
 }
 
 /// A plain pseudo-random sequence; the same at every run.
-struct Dice(u64);
+pub struct Dice(pub u64);
 
 impl Dice {
-    fn below(&mut self, limit: u64) -> u64 {
+    pub fn below(&mut self, limit: u64) -> u64 {
         self.0 = self
             .0
             .wrapping_mul(6364136223846793005)

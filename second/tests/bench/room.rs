@@ -5,8 +5,8 @@ use second::room::room_text;
 use crate::listing::{SETTLED_INPUT, SETTLED_LISTING};
 
 /// A strike on the fresh chip, and its answer.
-const STRIKE: [u8; 4] = [4, 0, 0, 0];
-const STRUCK: &str = "0400000200000000\n";
+pub const STRIKE: [u8; 4] = [4, 0, 0, 0];
+pub const STRUCK: &str = "0400000200000000\n";
 
 /// The room's two bytes and the batch after them.
 pub fn input(room: u16, batch: &[u8]) -> Vec<u8> {

@@ -1,0 +1,4 @@
+pub mod Holding
+pub mod Calling
+pub mod Meeting
+pub mod Completing

@@ -1,0 +1,3 @@
+pub mod Held
+pub mod Line
+pub mod private
