@@ -38,6 +38,13 @@ REFUSAL_NAMES = {
     8: "two or more cells of the picture fit the latch",
 }
 ENDINGS = (0, 3, 4)
+# The endings of a call on the serial line, which takes a cut or closes the line.
+CALL_ENDING_NAMES = {
+    0: "done",
+    3: "the line is closed with one to three bytes held",
+    4: REFUSAL_NAMES[4],
+    12: "the line was closed before",
+}
 # A setting has a byte for each register R0 to R15, and a report on settings a row for each and one of totals.
 SETTING_BYTES = 16
 MOST_SETTINGS = 64

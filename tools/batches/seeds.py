@@ -6,7 +6,7 @@ import re
 from commands import CannotRun, attempt
 
 FIXED_SEED = 6545
-WHOLE_RUN = 750  # batches, whatever the number of seeds
+WHOLE_RUN = 900  # batches, whatever the number of seeds
 DIGITS = 8  # hex digits of the commit to a seed
 OF_COMMIT = 2
 

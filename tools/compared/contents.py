@@ -8,6 +8,15 @@ GOOD_BATCH = bytes.fromhex(
 # Small frames: setting A of the settled cases, all zeros, and one with late pins, a cursor, both syncs and addresses that wrap.
 GOOD_SETTINGS = bytes.fromhex(
     "03020000010102000001000000000000 00000000000000000000000000000000 06040534030203023002410f3ffb0001")
+# Calls on a line: a record cut into three and one, without room for its answer and with it, two records of which one has room, the other
+# one again, the beginning of a third, a closing, and calls after it.
+GOOD_CALLS = bytes.fromhex(
+    "0100000003040000 010007000100 010008000100 010008000803000100 09000000 010010000409000000 01000900020600 02 010002000104 02")
+
+
+def repeated(good, length):
+    """A good input over and over, as far as a length goes."""
+    return (good * (length // len(good) + 1))[:length]
 
 
 def contents(length, what, good):
@@ -15,5 +24,5 @@ def contents(length, what, good):
     plan = random.Random(length)
     yield "zeros", bytes(length)
     if length:
-        yield what, (good * (length // len(good) + 1))[:length]
+        yield what, repeated(good, length)
         yield "any bytes", bytes(plan.randrange(256) for _ in range(length))

@@ -47,9 +47,9 @@ class Counts(Program):
             raise NotReadable
         return Report(rows, 0)
 
-    def count(self, text, tally):
+    def count(self, given, text, tally):
         """By its rows and its refusal."""
-        tally.add_report(*self.read(text))
+        tally.add_report(*self.read_for(given, text))
 
     def place_of_line(self, given, line_number):
         """Each line is of the setting with its number; the totals follow."""

@@ -11,6 +11,7 @@ class Program:
 
     name = ""  # of the crate
     second_part = ()  # the words that the second program is started with to do the same
+    reads_as_it_comes = False  # whether it answers before its input has ended, so that it matters in which pieces that comes
     edge_lengths = ()  # of the inputs at the program's edges, in bytes
     good_input = b""  # one that is taken
 
@@ -35,8 +36,12 @@ class Program:
         """What an output says. Raises NotReadable where it is no output of this program."""
         raise NotImplementedError
 
-    def count(self, text, tally):
-        """Has a tally count what an output says."""
+    def read_for(self, given, text):
+        """What the output for an input says. Raises NotReadable where it is none for that; most are read without a look at the input."""
+        return self.read(text)
+
+    def count(self, given, text, tally):
+        """Has a tally count what the output for an input says."""
         raise NotImplementedError
 
     def place_of_line(self, given, line_number):

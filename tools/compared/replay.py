@@ -45,9 +45,9 @@ class Replay(Program):
         """What an output with answers says; read does the others."""
         raise NotImplementedError
 
-    def count(self, text, tally):
+    def count(self, given, text, tally):
         """By its answers and its ending."""
-        tally.add_replay(*self.read(text))
+        tally.add_replay(*self.read_for(given, text))
 
 
 def grouped(batch):

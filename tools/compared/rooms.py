@@ -6,6 +6,7 @@ from .program import NotReadable
 from .replay import Reading, Replay, place_of_record
 
 ROOM_BYTES = 2  # in front of the batch, high byte first
+MOST_ROOM = 8192  # output bytes; more count as these
 # The line of the counts, the output in lines of an answer's length, and what is left of it.
 LAYOUT = re.compile(r"(?:[0-9a-f]{16}\n)+(?:(?:[0-9a-f]{2}){1,7}\n)?")
 TRIED = ("2000", "0000", "0014", "ffff")  # as the first two bytes have them: the most, none, a few, too many

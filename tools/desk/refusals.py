@@ -42,10 +42,9 @@ def why_not_allowed(one):
     return f"{KIND_NAMES[one[0]]}: {', '.join(wrong)}"
 
 
-def ending(number, rest, answers=()):
-    """What a listing's last line says; rest is what follows the last whole record."""
-    refused = sum(bool(answer[1]) for answer in answers)
-    if number == 0 and not answers:
+def ending(number, rest, answered=0, refused=0):
+    """What a listing's last line says; rest is what follows the last whole record. So many are answered, some of them with a refusal."""
+    if number == 0 and not answered:
         return EMPTY
     if number == 0:
         return "every record was answered" + (f", {refused} with a refusal" if refused else "")
@@ -65,9 +64,15 @@ def surprise(data, end):
     """What somebody has to know of a replay that ended otherwise than he may think; None where there is nothing."""
     if end == TOO_LONG:
         return too_long(len(data))
-    if not data:
+    whole = len(data) // RECORD_BYTES
+    return surprise_at_end(end, data[whole * RECORD_BYTES:], whole)
+
+
+def surprise_at_end(number, rest, answered):
+    """The same by how it ended, what follows the last whole record, and how many there are."""
+    if not answered and not rest:
         return EMPTY
-    return ending(3, data[len(data) // RECORD_BYTES * RECORD_BYTES:]) if end == 3 else None
+    return ending(number, rest) if number == 3 else None
 
 
 def not_settings(length):

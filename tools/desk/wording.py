@@ -103,20 +103,26 @@ def label_of(one, named):
     return f"{words} ({control_bit(name)})" if name else words
 
 
-def spoken_of(data):
-    """The records of a batch, each with its label. The register that is meant is the one that was named last, and R0 at first."""
-    made, named, certain = [], 0, False
-    for one in records_of(data):
-        made.append(Spoken(one, label_of(one, named), certain))
+class Speaker:
+    """Says what records do, one after the other. The register that is meant is the one that was named last, and R0 at first."""
+
+    def __init__(self):
+        self.named = 0
+        self.certain = False
+
+    def spoken(self, one):
+        """The next record, and what is said of it."""
+        said = Spoken(one, label_of(one, self.named), self.certain)
         if one == records.reset_controller():
-            certain = True
+            self.certain = True
         elif one[:3] == records.select(0)[:3]:
-            named = one[-1] % REGISTER_NUMBERS
-        elif one[:3] == records.write(0)[:3] and named <= LAST_WRITTEN:
-            certain = False
-    return made
+            self.named = one[-1] % REGISTER_NUMBERS
+        elif one[:3] == records.write(0)[:3] and self.named <= LAST_WRITTEN:
+            self.certain = False
+        return said
 
 
 def labels_of(data):
     """A label for each record of a batch."""
-    return [spoken.label for spoken in spoken_of(data)]
+    speaker = Speaker()
+    return [speaker.spoken(one).label for one in records_of(data)]

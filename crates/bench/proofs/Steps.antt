@@ -62,6 +62,23 @@ module _ (b : Bench) (kind : ℕ) where
   unfolding onDecoded onEvent onLevels
   levels-done hs da0 = (refl, refl)
 
+  -- and leave the controller alone
+  pub multiplexer-reset-aside : onDecoded b kind (Known (Reset true)) .bench .controller ≡ b .controller
+  unfolding onDecoded onEvent onReset if_then_else_
+  multiplexer-reset-aside = refl
+
+  pub cycle-aside : (address : ℕ) (read : Bool) → onDecoded b kind (Known (Cycle address read)) .bench .controller ≡ b .controller
+  unfolding onDecoded onEvent onCycle
+  cycle-aside address read = refl
+
+  pub fetches-aside : (n : ℕ) → onDecoded b kind (Known (Fetches n)) .bench .controller ≡ b .controller
+  unfolding onDecoded onEvent onFetches
+  fetches-aside n = refl
+
+  pub levels-aside : (hs da0 : Bool) → onDecoded b kind (Known (Levels hs da0)) .bench .controller ≡ b .controller
+  unfolding onDecoded onEvent onLevels
+  levels-aside hs da0 = refl
+
   -- an event that locates asks, and moves neither chip
   pub on-locate : onDecoded b kind (Known Locate) ≡ record { bench = b; answer = locatedAnswerOf kind (locateOf (b .controller)) }
   unfolding onDecoded onEvent onLocate

@@ -1,3 +1,4 @@
+pub mod Calling
 pub mod OnTheBench
 pub mod Reading
 pub mod Refusals

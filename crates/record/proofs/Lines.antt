@@ -1,4 +1,5 @@
--- The lines of the table that a controller alone can meet, the two records that read, and the two cases of a checked event. Assumes nothing.
+-- The lines of the table that a controller alone can meet, the records that read, reset the controller and locate, and the two cases of a
+-- checked event. Assumes nothing.
 use Prim.Native.Nat.{ℕ}
 use mathlib.Core.Path.{_≡_, refl}
 use mathlib.Core.Bool.{Bool, true, false, _&&_}
@@ -7,7 +8,7 @@ use Rattle.basics.specs.Bits.{num, wordOf}
 use Rattle.basics.specs.Choice.{if_then_else_}
 use Rattle.record.specs.Decode.{lookedUp, checkedOf, decodeOf}
 use Rattle.record.specs.declared.event.Event.{Event}
-use Rattle.record.specs.declared.event.Event.the-variants.{Write, Read, Clocks, Strike}
+use Rattle.record.specs.declared.event.Event.the-variants.{Write, Read, Clocks, Strike, Reset, Locate}
 use Rattle.record.specs.declared.kinds.Decoded.{Decoded}
 use Rattle.record.specs.declared.kinds.Decoded.the-variants.{Known, Refused}
 use Rattle.record.specs.declared.kinds.Refusal.the-variants.{Field}
@@ -36,3 +37,12 @@ pub checked-either : (P : Decoded → Type 0) (fields : Bool) (e : Event) → P 
 unfolding checkedOf if_then_else_
 checked-either P true e p q = p
 checked-either P false e p q = q
+
+-- the controller's reset, and a locate
+pub reset-record : decodeOf 5 0 0 0 ≡ Known (Reset false)
+unfolding decodeOf lookedUp checkedOf if_then_else_
+reset-record = refl
+
+pub locate-record : decodeOf 9 0 0 0 ≡ Known Locate
+unfolding decodeOf lookedUp checkedOf if_then_else_
+locate-record = refl
