@@ -1,9 +1,9 @@
-"""The examples: batches and settings in words, and beside each what is made of it."""
+"""The examples: batches, settings and calls in words, and beside each what is made of it."""
 from commands import TOP
 
 EXAMPLES = TOP / "examples"
 MADE = ("hex", "listing", "explained")  # from each NAME.batch, by tools/check-desk --write
-MADE_FROM = {"batch": MADE, "settings": ("counts",)}
+MADE_FROM = {"batch": MADE, "settings": ("counts",), "calls": ("cuts", "explained")}
 
 
 class Disagreement(Exception):

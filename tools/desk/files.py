@@ -1,4 +1,4 @@
-"""The files that hold a batch or settings: words, commented hex, or bytes."""
+"""The files that hold a batch, settings or calls: words, commented hex, or bytes."""
 import codecs
 import contextlib
 import os
@@ -6,7 +6,7 @@ import stat
 from typing import Callable, NamedTuple
 
 from records import MOST_BATCH_BYTES, MOST_SETTINGS, SETTING_BYTES
-from . import batch, sheets
+from . import batch, calls, sheets
 from .lines import BadInput
 from .terminal import tell
 
@@ -29,6 +29,7 @@ class Sort(NamedTuple):
 
 BATCH = Sort("a batch", ".batch", MOST_BATCH_BYTES, batch.from_words, batch.from_hex, batch.Batch)
 SETTINGS = Sort("settings", ".settings", MOST_SETTINGS * SETTING_BYTES, sheets.from_words, sheets.from_hex, sheets.from_bytes)
+CALLS = Sort("calls", ".calls", calls.MOST_BYTES, calls.from_words, calls.from_hex, batch.Batch)
 
 
 def form_of(sort, name, said):
@@ -109,3 +110,8 @@ def read_batch(name, said=None):
 def read_settings(name, said=None):
     """The settings of a file, or of standard input."""
     return read_file(SETTINGS, name, said)
+
+
+def read_calls(name, said=None):
+    """The calls of a file, or of standard input, as the bytes of their list."""
+    return read_file(CALLS, name, said)

@@ -1,5 +1,6 @@
 """The command line of the desk program, and how it ends: 0 well, 1 a program cannot be built or run, 2 the input is wrong."""
 import argparse
+import contextlib
 import os
 import sys
 
@@ -20,6 +21,8 @@ First steps:
   ./vorstelpijp explain examples/march.batch     the March case, line by line
   ./vorstelpijp explain --help                   how a batch is written in words
   ./vorstelpijp counts examples/boards.settings  boards compared by numbers
+  ./vorstelpijp cuts examples/halves.calls       a record that comes in two halves
+  ./vorstelpijp serial --help                    records off a serial port
 
 A program is proved and built when it is first needed, which takes some minutes
 and shows how far it is.
@@ -41,30 +44,43 @@ def command_line():
     return parser
 
 
+class NotWritten(Exception):
+    """Standard output took no more; says why, and nothing where whoever read it has seen enough."""
+
+
 def put_out(text):
     """Writes all of a text or of bytes to standard output, past Python's own buffer, so that nothing is left to fail at the end."""
     rest = text if isinstance(text, bytes) else text.encode()
-    while rest:
-        rest = rest[os.write(1, rest):]
+    try:
+        while rest:
+            rest = rest[os.write(1, rest):]
+    except BrokenPipeError as problem:
+        raise NotWritten from problem
+    except OSError as problem:
+        raise NotWritten(f"standard output cannot be written: {problem.strerror}") from problem
+
+
+def parts_of(given):
+    """What a command gives for standard output, part by part; most give all of it at once."""
+    if isinstance(given, (str, bytes)):
+        yield given
+    else:
+        yield from given
 
 
 def run(asked):
     """Runs a command. Gives the exit status."""
     try:
-        text = asked.run(asked)
+        with contextlib.closing(parts_of(asked.run(asked))) as parts:
+            for part in parts:
+                put_out(part)
     except BadInput as problem:
         for message in problem.messages:
             tell(message)
         return WRONG
-    except (CannotRun, OSError) as problem:
-        tell(problem)
-        return CANNOT
-    try:
-        put_out(text)
-    except BrokenPipeError:
-        return CANNOT  # whoever read the output has seen enough
-    except OSError as problem:
-        tell(f"standard output cannot be written: {problem.strerror}")
+    except (CannotRun, NotWritten, OSError) as problem:
+        if str(problem):
+            tell(problem)
         return CANNOT
     return GOOD
 
@@ -79,6 +95,6 @@ def main(words):
         return WRONG
     try:
         return run(asked)
-    except KeyboardInterrupt:
-        tell("stopped; what is proved so far stays proved")
+    except KeyboardInterrupt as stop:
+        tell(str(stop) or "stopped; what is proved so far stays proved")
         return STOPPED

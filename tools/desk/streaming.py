@@ -64,8 +64,8 @@ def stopped(answered, rest):
 
 
 def answered(program, pieces, shown):
-    """What is shown of bytes that come piece by piece: after each piece a text of the answers to the records that are whole with it, and the
-    end at last. Nothing is kept but one to three bytes of a record that is not whole yet."""
+    """What is shown of bytes that come piece by piece: a text for each record as soon as it is whole, and one for the end. No more is read
+    before all whole records are answered, and then at most three bytes are kept."""
     rest = b""
     try:
         for piece in pieces:
@@ -75,7 +75,7 @@ def answered(program, pieces, shown):
             rest = data[whole:]
             for one in records_of(data[:whole]):
                 shown.record(one, answer_line(program))
-            yield shown.text()
+                yield shown.text()
         shown.end(ending_of(program, rest), rest)
         yield shown.text()
     except KeyboardInterrupt:

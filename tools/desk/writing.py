@@ -8,16 +8,17 @@ WORDS_COLUMN = 24  # where a remark behind words begins
 
 
 class Remarks:
-    """The remarks of a batch, each by the record that it belongs to; they are taken from the first to the last."""
+    """The remarks of a batch, each by the record that it belongs to; they are taken from the first to the last. Where the bytes are no
+    records, begun says how many things begin before a place."""
 
-    def __init__(self, batch):
+    def __init__(self, batch, begun=records_before):
         alone = [remark for remark in batch.remarks if not remark.behind]
-        self.waiting = collections.deque((records_before(remark.at), standing_alone(remark)) for remark in alone)
+        self.waiting = collections.deque((begun(remark.at), standing_alone(remark)) for remark in alone)
         self.apart = {number for number, _line in self.waiting}
         self.behind = collections.defaultdict(list)
         for remark in batch.remarks:
             if remark.behind:
-                self.behind[records_before(remark.at) - 1].append(remark.text)
+                self.behind[begun(remark.at) - 1].append(remark.text)
 
     def before(self, number):
         """The lines of remarks that stand before a record, those before earlier ones being taken already."""

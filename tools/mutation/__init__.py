@@ -1,4 +1,4 @@
 """Changes to the second program, each of which breaks a rule: what the comparison has to see."""
-from . import controller, counts, multiplexer, records
+from . import controller, counts, line, multiplexer, records
 
-CHANGES = records.CHANGES + controller.CHANGES + multiplexer.CHANGES + counts.CHANGES
+CHANGES = records.CHANGES + controller.CHANGES + multiplexer.CHANGES + counts.CHANGES + line.CHANGES

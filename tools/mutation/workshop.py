@@ -5,7 +5,8 @@ import shutil
 from batches.outputs import describe_difference
 from commands import TOP, CannotRun, attempt
 from compared import PROGRAMS
-from programs import CARGO_WORDS, outcome_of
+from feeding import outcome_on
+from programs import CARGO_WORDS
 
 SECONDS_FOR_ONE = 20  # a changed program that needs more hangs: the unchanged one takes less than one
 BY_COMPARISON, BY_TESTS, BY_NEITHER = "comparison", "tests", "neither"
@@ -48,7 +49,7 @@ class Workshop:
     def first_difference(self, proved):
         """The first batch on which the program here is not as the proved one, or None."""
         for batch, outcome in proved:
-            here = outcome_of(batch.program.second_words(self.program), batch.input, SECONDS_FOR_ONE)
+            here = outcome_on(batch.program.second_words(self.program), batch, "second", SECONDS_FOR_ONE)
             if describe_difference(batch, outcome, here):
                 return batch
         return None

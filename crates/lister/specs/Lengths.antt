@@ -2,12 +2,8 @@
 use Prim.Native.Nat.{ℕ, _+_, _*_}
 use lib.ListN.{length}
 use Rattle.batch.specs.Fresh.{mostAnswers}
-use Rattle.text.specs.Lengths.{lineLength}
-use Rattle.lister.specs.Lines.{mark, endOf}
-
--- no line is longer than this
-abbrev pub markedLength : ℕ
-markedLength = lineLength + length mark
+use Rattle.answer_lines.specs.Marked.{markedLength}
+use Rattle.lister.specs.Listing.{endOf}
 
 -- no listing is longer: a line for each answer, and the last line
 abbrev pub listingLength : ℕ

@@ -1,5 +1,4 @@
 // The text of the program `listing`: each answer of a batch on its line, and the ending.
-mod lines;
 mod listing;
 
 pub use listing::INPUT;

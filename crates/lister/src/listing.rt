@@ -1,30 +1,44 @@
 // The listing of a batch.
 ghost use mathlib.Core.Path.{_≡_};
+ghost use Prim.Native.Nat.{_≤_};
 ghost use lib.ListN.{length};
 ghost use Rattle.basics.specs.Lay.{Writes, laidAt};
 ghost use Rattle.text.specs.Speech.{Counts};
-ghost use Rattle.lister.specs.Listing.{batchListingOf, listingOf};
+ghost use Rattle.lister.specs.Listing.{endOf, batchListingOf, listingOf};
 ghost use Rattle.lister.specs.Lengths.{listingLength};
-use crate::lines::END;
-use crate::lines::MARKED;
-use crate::lines::end_line;
-use crate::lines::lines;
+use answer_lines::MARKED;
+use answer_lines::put_answers;
 use basics::put;
 use batch::replay_fresh;
+use text::PER_LINE;
 
 // The longest input that is listed.
 pub const INPUT: usize = batch::MOST;
 
+// How long the last line is.
+const END: usize = 6;
+
 // The room of a listing: for every answer a line as long as a line can be, and the ending.
 pub const TEXT: usize = MARKED * batch::ANSWERS + END;
 
+// The line of the ending number, which is one digit.
+fn end_line(text: &mut [u8], p: usize, ending: u8) -> usize
+    requires { ⌜ ending ≤ 9 ⌝ }
+    ensures { λ q. ⌜ Writes (now (text .entry)) (now (text .exit)) p q (endOf ending) ⌝ }
+{
+    let line = [b'e', b'n', b'd', b' ', b'0' + ending, b'\n'];
+    put(text, p, &line)
+}
+
 // The listing of a batch, on fresh chips and with room for every answer.
 fn batch_listing(text: &mut [u8], batch: &[u8]) -> usize
+    requires { ⌜ listingLength ≤ length (now text) ⌝ }
     ensures { λ q. ⌜ Writes (now (text .entry)) (now (text .exit)) 0 q (batchListingOf (now (batch .entry))) ⌝ }
 {
     let mut out = [0u8; batch::OUTPUT];
     let replayed = replay_fresh(batch, &mut out);
-    let p = lines(text, 0, &out, replayed.answers);
+    let written = PER_LINE * replayed.answers;
+    let p = put_answers(text, 0, &out[..written]);
     end_line(text, p, replayed.ending)
 }
 

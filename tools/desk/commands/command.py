@@ -32,7 +32,7 @@ class Command(NamedTuple):
     about: str
     more: str
     add_arguments: Callable  # is given the parser
-    run: Callable  # is given the arguments, and gives the text or the bytes for standard output
+    run: Callable  # is given the arguments, and gives the text or the bytes for standard output, or gives them part by part
 
 
 def in_columns(pairs, width=19):

@@ -1,7 +1,9 @@
 use Prim.Native.Nat.{ℕ}
+use mathlib.Core.Path.{sym}
 use native.Mathlib.Omega.{arith}
 use denote.Ref.{now}
 use lib.ListN.{replicate, length-replicate}
+use lib.Seq.{length-take-le}
 use Rattle.batch.specs.Fresh.{mostOutput}
 use Rattle.lister.proofs.Listed.{lists}
 use borrow.Author.Needs.{needs}
@@ -14,20 +16,23 @@ slice-aggregate-replay-fresh c = search needs
 replay-fresh-requires : tie.Need-replay-fresh-requires
 replay-fresh-requires c κs = search needs
 
-slice-aggregate-lines : tie.Need-slice-aggregate-lines
-slice-aggregate-lines c = search needs
+mul-written : tie.Need-mul-written
+mul-written c = search needs
 
-lines-requires : tie.Need-lines-requires
-lines-requires c κs =
-    let bounds = c .before .before .before .replay-fresh .ensures .1 .1 .1 in
-    omega (arith, bounds .same, bounds .answers)
+array-share-prefix-out : tie.Need-array-share-prefix-out
+array-share-prefix-out c = search needs
+
+slice-aggregate-put-answers : tie.Need-slice-aggregate-put-answers
+slice-aggregate-put-answers c =
+    let lent = c .before in
+    let bounds = lent .before .before .before .replay-fresh .ensures .1 .1 .1 in
+    sym (length-take-le _ _ (omega (arith, bounds .same, bounds .answers)))
+
+put-answers-requires : tie.Need-put-answers-requires
+put-answers-requires c κs = search needs
 
 end-line-requires : tie.Need-end-line-requires
-end-line-requires c κs =
-    let lined = c .before .before .before in
-    let lent = lined .before in
-    let replayed = lent .before .before .before in
-    omega (arith, replayed .replay-fresh .ensures .1 .1 .1 .ending)
+end-line-requires c κs = search needs
 
 same-length : tie.Need-same-length
 same-length c = search needs
@@ -35,14 +40,13 @@ same-length c = search needs
 returns : tie.Need-returns
 returns c =
     let ended = c .before .before in
-    let shown = ended .before in
-    let lined = shown .before .before .before in
-    let lent = lined .before in
+    let lined = ended .before .before .before .before in
+    let lent = lined .before .before in
     let replayed = lent .before .before .before in
-    let made = replayed .before in
-    let batch = now (made .before .before .before .args .batch) in
+    let start = replayed .before .before .before .before in
     let r = replayed .replay-fresh .ensures in
-    lists batch (replicate mostOutput 0) (length-replicate {A = ℕ} mostOutput 0) (r .0) (r .1 .0) (lined .lines .ensures) (ended .end-line .ensures)
+    lists (now (start .args .batch)) (replicate mostOutput 0) (length-replicate {A = ℕ} mostOutput 0) (start .pre) (r .0) (r .1 .0)
+    (lined .put-answers .ensures .1 .1 .1) (ended .end-line .ensures)
 
 pub batch-listing-spec : {M : Type 1} → statement M
 batch-listing-spec =
@@ -50,8 +54,10 @@ batch-listing-spec =
     (tie.spec
     slice-aggregate-replay-fresh
     replay-fresh-requires
-    slice-aggregate-lines
-    lines-requires
+    mul-written
+    array-share-prefix-out
+    slice-aggregate-put-answers
+    put-answers-requires
     end-line-requires
     same-length
     returns)

@@ -1,7 +1,7 @@
-use Rattle.lister.specs.Lines.{oddOf}
+use Rattle.answer_lines.specs.Lines.{oddOf}
 use borrow.Author.Needs.{needs}
-use Rattle.lister.proofs.lines.is_odd.Statement.{statement}
-use Rattle.lister.proofs.lines.is_odd.Tie as tie
+use Rattle.answer_lines.proofs.lines.is_odd.Statement.{statement}
+use Rattle.answer_lines.proofs.lines.is_odd.Tie as tie
 
 shared-slice-read-result : tie.Need-shared-slice-read-result
 shared-slice-read-result c = search needs

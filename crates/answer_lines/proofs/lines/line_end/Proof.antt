@@ -1,6 +1,6 @@
 use borrow.Author.Needs.{needs}
-use Rattle.lister.proofs.lines.line_end.Statement.{statement}
-use Rattle.lister.proofs.lines.line_end.Tie as tie
+use Rattle.answer_lines.proofs.lines.line_end.Statement.{statement}
+use Rattle.answer_lines.proofs.lines.line_end.Tie as tie
 
 slice-aggregate-put : tie.Need-slice-aggregate-put
 slice-aggregate-put c = search needs

@@ -1,20 +1,18 @@
-// The lines of a listing.
+// Answers on lines.
 ghost use mathlib.Core.Path.{_≡_};
 ghost use Prim.Native.Nat.{_*_, _≤_};
 ghost use lib.ListN.{length};
 ghost use Rattle.basics.specs.Lay.{Writes};
 ghost use Rattle.text.specs.Lines.{perLine, rowsOf};
-ghost use Rattle.lister.specs.Lines.{oddOf, lineEndOf, endOf};
-ghost use Rattle.lister.specs.private.Marked.{answerOf, markedOf};
+ghost use Rattle.answer_lines.specs.Lines.{oddOf, lineEndOf};
+ghost use Rattle.answer_lines.specs.Marked.{answerOf, markedOf, behindLines, putLines, WritesLines};
+use basics::has_room;
 use basics::put;
 use text::PER_LINE;
 use text::put_hex;
 
 // How long a line is at most: digits, the mark and the end.
-pub(crate) const MARKED: usize = text::LINE + 4;
-
-// How long the last line is.
-pub(crate) const END: usize = 6;
+pub const MARKED: usize = text::LINE + 4;
 
 // Whether an answer's bytes get the old program's mark.
 fn is_odd(answer: &[u8]) -> bool
@@ -43,7 +41,7 @@ fn line(text: &mut [u8], p: usize, answer: &[u8]) -> usize
 }
 
 // The lines of the first n answers.
-pub(crate) fn lines(text: &mut [u8], p: usize, answers: &[u8], n: usize) -> usize
+fn lines(text: &mut [u8], p: usize, answers: &[u8], n: usize) -> usize
     requires { ⌜ perLine * n ≤ length (now answers) ⌝ }
     ensures { λ q. ⌜ Writes (now (text .entry)) (now (text .exit)) p q (rowsOf markedOf n (now (answers .entry))) ⌝ }
 {
@@ -57,11 +55,20 @@ pub(crate) fn lines(text: &mut [u8], p: usize, answers: &[u8], n: usize) -> usiz
     q
 }
 
-// The line of the ending number, which is one digit.
-pub(crate) fn end_line(text: &mut [u8], p: usize, ending: u8) -> usize
-    requires { ⌜ ending ≤ 9 ⌝ }
-    ensures { λ q. ⌜ Writes (now (text .entry)) (now (text .exit)) p q (endOf ending) ⌝ }
+// Lays a line for each whole answer among some bytes from at on, and gives the place behind them; where lines that all have the mark would
+// have no room, changes nothing and gives at back.
+pub fn put_answers(text: &mut [u8], at: usize, answers: &[u8]) -> usize
+    ensures place { λ q. ⌜ q ≡ behindLines (now (text .entry)) at (now (answers .entry)) ⌝ }
+    ensures laid { λ q. ⌜ now (text .exit) ≡ putLines (now (text .entry)) at (now (answers .entry)) ⌝ }
+    ensures kept { λ q. ⌜ now (answers .exit) ≡ now (answers .entry) ⌝ }
+    ensures next { λ q. ⌜ WritesLines (now (text .entry)) (now (text .exit)) at q (now (answers .entry)) ⌝ }
 {
-    let line = [b'e', b'n', b'd', b' ', b'0' + ending, b'\n'];
-    put(text, p, &line)
+    let n = answers.len() / PER_LINE;
+    if text.len() / MARKED < n {
+        return at;
+    }
+    if has_room(text.len(), at, MARKED * n) {
+        return lines(text, at, answers, n);
+    }
+    at
 }

@@ -7,9 +7,9 @@ use Rattle.basics.specs.Lay.{Writes}
 use Rattle.basics.proofs.Laying.{writes-nothing}
 use Rattle.text.specs.Lines.{perLine, rowsOf}
 use Rattle.text.proofs.Lining.{rows-none, row-part, writes-row}
-use Rattle.lister.specs.private.Marked.{markedOf}
-use Rattle.lister.proofs.lines.lines.Statement.{statement}
-use Rattle.lister.proofs.lines.lines.Tie as tie
+use Rattle.answer_lines.specs.Marked.{markedOf}
+use Rattle.answer_lines.proofs.lines.lines.Statement.{statement}
+use Rattle.answer_lines.proofs.lines.lines.Tie as tie
 
 abbrev Inv-loop : tie.InvT-loop
 Inv-loop text₀ p answers n q₀ i₀ text q i = (i ≤ n) × (length text ≡ length text₀) × Writes text₀ text p q (rowsOf markedOf i answers)

@@ -1,5 +1,5 @@
--- The lines of a listing (document 01, "Records and what comes back", the listing program).
-use Prim.Native.Nat.{ℕ, _+_, _%_}
+-- The lines of answers (document 01, "Records and what comes back", the listing program).
+use Prim.Native.Nat.{ℕ, _%_}
 use mathlib.Core.Bool.{Bool, true, false, _&&_}
 use mathlib.Core.List.{List, [], _∷_, _++_}
 use lib.Dec.{eqb, leb}
@@ -26,7 +26,3 @@ lineEndOf false = newline
 unfoldable pub answerLinesOf : List Answer → List ℕ
 answerLinesOf [] = []
 answerLinesOf (a ∷ l) = (hexOf (bytesOf a) ++ lineEndOf (oddOf a)) ++ answerLinesOf l
-
--- `end`, the ending number and the end of the line
-abbrev pub endOf : ℕ → List ℕ
-endOf ending = 101 ∷ 110 ∷ 100 ∷ 32 ∷ (48 + ending) ∷ 10 ∷ []

@@ -1,8 +1,8 @@
 use Rattle.basics.proofs.Laying.{then-writes}
-use Rattle.lister.specs.private.Marked.{markedOf}
+use Rattle.answer_lines.specs.Marked.{markedOf}
 use borrow.Author.Needs.{needs}
-use Rattle.lister.proofs.lines.line.Statement.{statement}
-use Rattle.lister.proofs.lines.line.Tie as tie
+use Rattle.answer_lines.proofs.lines.line.Statement.{statement}
+use Rattle.answer_lines.proofs.lines.line.Tie as tie
 
 put-hex-requires : tie.Need-put-hex-requires
 put-hex-requires c κs = search needs
