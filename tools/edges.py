@@ -1,5 +1,5 @@
-"""What the proved programs do at their edges: inputs of few bytes and of about the most that they
-take, beside the second program; and input that cannot be read and output that cannot be written."""
+"""What the proved programs do at their edges: inputs of few bytes and of about the most that they read
+at a time or take, beside the second program; and input that cannot be read and output that cannot be written."""
 import subprocess
 from typing import NamedTuple
 

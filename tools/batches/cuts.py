@@ -1,7 +1,7 @@
 """Lists of calls on a serial line: batches in cuts of any length, with room for their answers and without, closings, and bytes that are
 no list. A list is made from the random numbers that it is given and from nothing else."""
 
-from compared.calls import CLOSING, CUT, HEAD_BYTES, MOST_CALLS_BYTES, calls_of, in_call
+from compared.calls import CLOSING, HEAD_BYTES, MOST_CALLS_BYTES, calls_of, in_call
 from compared.rooms import MOST_ROOM
 from records import ANSWER_BYTES, RECORD_BYTES
 from . import mixed
@@ -130,30 +130,42 @@ def no_calls(_rng):
     return b""
 
 
-def another_number(rng, calls):
-    """One call begins with a byte that no call begins with."""
-    place = rng.randrange(len(calls))
-    other = rng.choice((0, 3, 255, rng.randrange(3, 256)))
-    calls[place] = bytes((other,)) + calls[place][1:]
+def some_calls(rng):
+    """A few calls of a good list, one at least."""
+    return [call.written for call in calls_of(cuts_handed_again(rng))][:rng.randint(1, 60)]
+
+
+def strange_byte(rng):
+    """A byte that no call begins with."""
+    return bytes((rng.choice((0, 3, 255, rng.randrange(3, 256))),))
+
+
+def bytes_between_calls(rng):
+    """A list with a byte between two calls, before them or behind them, that is none itself: no call."""
+    calls = some_calls(rng)
+    calls.insert(rng.randint(0, len(calls)), strange_byte(rng))
     return b"".join(calls)
 
 
-def broken_off(rng, calls):
-    """The last call is a cut that breaks off: in its head, or before its end."""
+def calls_of_no_kind(rng):
+    """A list of which one call begins with another byte: no call."""
+    calls = some_calls(rng)
+    place = rng.randrange(len(calls))
+    calls[place] = strange_byte(rng) + calls[place][1:]
+    return b"".join(calls)
+
+
+def heads_broken_off(rng):
+    """A list with a last call that lacks some of its head, or that has its first byte alone: no call."""
+    last = in_call(rng.randrange(40), b"")
+    return b"".join(some_calls(rng)) + last[:rng.choice((1, rng.randrange(1, HEAD_BYTES)))]
+
+
+def cuts_broken_off(rng):
+    """A list with a last cut that lacks a byte, or more of them, or all: no call."""
     cut = mixed.some_good_batch(rng)[:rng.randint(1, 30)]
     last = in_call(rng.randrange(40), cut)
-    return b"".join(calls) + last[:rng.choice((1, rng.randint(1, HEAD_BYTES), HEAD_BYTES, len(last) - 1))]
-
-
-def one_byte_more(rng, calls):
-    """A byte behind the calls that closes nothing."""
-    return b"".join([*calls, bytes((rng.choice((0, CUT, 3, 255)),))])
-
-
-def damaged_lists(rng):
-    """A list of which one call begins with another byte, or which breaks off, or has a byte too many: no call."""
-    calls = [call.written for call in calls_of(cuts_handed_again(rng))][:rng.randint(1, 60)]
-    return rng.choice((another_number, broken_off, one_byte_more))(rng, calls)
+    return b"".join(some_calls(rng)) + last[:-rng.choice((1, 1, rng.randint(1, len(cut)), len(cut)))]
 
 
 def lists_too_long(rng):

@@ -1,69 +1,43 @@
-"""Calls on a serial line, from words, hex or bytes. A list of calls is what the proved program 'cuts' reads: for a cut a byte 1, the room
-for its answers and its length in two bytes each, high byte first, and its bytes; for closing the line a byte 2."""
-from typing import NamedTuple, Optional
-
-from records import ANSWER_BYTES, MOST_BATCH_BYTES, RECORD_BYTES
+"""Calls on a serial line, from words, hex or bytes: what the proved program 'cuts' reads, and why that is no list of calls where it is
+none."""
+from compared.calls import CLOSE, CLOSING, CUT, HEAD_BYTES, MOST_CALLS_BYTES, first_call, in_call
+from compared.rooms import MOST_ROOM
 from . import hextext
 from .batch import read_text
 from .settings import number_of
 from .statements import NotWords, number
 from .terminal import shortened
 
-CUT, CLOSE = 1, 2  # the first byte of a call
-NUMBER_BYTES = 2  # of a room and of a length
-HEAD_BYTES = 1 + 2 * NUMBER_BYTES  # of a cut
-MOST_BYTES = 4096  # of a list
-MOST_CUT_BYTES = MOST_BYTES - HEAD_BYTES
-MOST_ROOM = MOST_BATCH_BYTES // RECORD_BYTES * ANSWER_BYTES  # more counts as that much
+MOST_CUT_BYTES = MOST_CALLS_BYTES - HEAD_BYTES
 SHAPE = "cut 16 04000000 09"
 SHAPES = (
-    (SHAPE, "a cut of these bytes, in hex, with 16 bytes for its answers"),
+    (SHAPE, "a cut of these bytes, and 16 bytes for its answers"),
     ("cut 16", "a cut of no bytes"),
     ("close", "close the line"),
 )
+EMPTY = "the list is empty: it has no call"
 
 
-class NotCalls(Exception):
-    """Bytes that are no list of calls; says why."""
-
-
-class Call(NamedTuple):
-    """A call on a line."""
-
-    at: int  # where its bytes begin in the list
-    room: Optional[int]  # of the answers to a cut; None where the line is closed
-    cut: bytes
-
-    @property
-    def closes(self):
-        """Whether it closes the line."""
-        return self.room is None
-
-    @property
-    def output(self):
-        """How many bytes the output has."""
-        return min(self.room or 0, MOST_ROOM)
-
-
-def cut_bytes(words):
+def cut_call(words):
     """The bytes of a call with a cut, from the words behind the first."""
     if not words:
         raise NotWords(f"the room is missing; expected it as in '{SHAPE}'")
     room, cut = number(words[0], MOST_ROOM, "the room of a cut"), hextext.bytes_of_words(words[1:])
     if len(cut) > MOST_CUT_BYTES:
-        raise NotWords(f"this cut has {len(cut):,} bytes; of calls at most {MOST_BYTES:,} bytes are taken, which leaves {MOST_CUT_BYTES:,} for a cut")
-    return bytes((CUT,)) + room.to_bytes(NUMBER_BYTES, "big") + len(cut).to_bytes(NUMBER_BYTES, "big") + cut
+        raise NotWords(f"this cut has {len(cut):,} bytes; of calls at most {MOST_CALLS_BYTES:,} bytes are taken, "
+                       f"which leaves {MOST_CUT_BYTES:,} for a cut")
+    return in_call(room, cut)
 
 
 def read_line(text):
     """The bytes of a line's call."""
     first, *others = text.split() or [""]
     if first.lower() == "cut":
-        return cut_bytes(others)
+        return cut_call(others)
     if first.lower() == "close":
         if others:
             raise NotWords(f"'{shortened(others[0])}' is too much; expected 'close' alone, and '#' before a comment")
-        return bytes((CLOSE,))
+        return CLOSING
     if first:
         raise NotWords(f"there is no word '{shortened(first)}' here; expected 'cut', a room and bytes in hex, as in '{SHAPE}', or 'close'")
     return b""
@@ -79,30 +53,28 @@ def from_hex(name, text):
     return read_text(name, text, hextext.read_line, whole_records=False)
 
 
-def call_at(data, at):
-    """The call that begins at a place of a list, and where the next one does."""
-    if data[at] == CLOSE:
-        return Call(at, None, b""), at + 1
-    if data[at] != CUT:
-        raise NotCalls(f"byte {at + 1} is {data[at]:02x}; a call begins with {CUT:02x}, which is a cut, or with {CLOSE:02x}, which closes the line.")
-    begin = at + HEAD_BYTES
-    if begin > len(data):
-        raise NotCalls(f"the call at byte {at + 1} is cut off: {len(data) - at} of the {HEAD_BYTES} bytes are there that come before a cut.")
-    room, length = (int.from_bytes(data[place:place + NUMBER_BYTES], "big") for place in (at + 1, at + 1 + NUMBER_BYTES))
-    end = begin + length
-    if end > len(data):
-        raise NotCalls(f"the call at byte {at + 1} is cut off: {len(data) - begin} of the {number_of(length, 'byte', 'bytes')} are there that "
-                       "its cut is said to have.")
-    return Call(at, room, data[begin:end]), end
+def why_no_call(at, rest):
+    """Why no call begins with the rest of a list, which begins at this place."""
+    if rest[0] not in (CUT, CLOSE):
+        return f"byte {at + 1} is {rest[0]:02x}; a call begins with {CUT:02x}, which is a cut, or with {CLOSE:02x}, which closes the line."
+    if len(rest) < HEAD_BYTES:
+        return f"the call at byte {at + 1} is cut off: {len(rest)} of the {HEAD_BYTES} bytes are there that come before a cut."
+    length = int.from_bytes(rest[HEAD_BYTES - 2:HEAD_BYTES], "big")
+    return (f"the call at byte {at + 1} is cut off: {len(rest) - HEAD_BYTES:,} of the {number_of(length, 'byte', 'bytes')} are there that its cut "
+            "is said to have.")
 
 
-def calls_of(data):
-    """The calls of a list."""
-    if len(data) > MOST_BYTES:
-        raise NotCalls(f"the calls have {len(data):,} bytes; at most {MOST_BYTES:,} are taken, {HEAD_BYTES} and its own bytes for each cut and "
-                       "one for closing. Cut the list at a place where you can begin each part with the setting: the chips start fresh in each run.")
-    made, at = [], 0
-    while at < len(data):
-        call, at = call_at(data, at)
-        made.append(call)
-    return made
+def why_none(data):
+    """Why no call is made of a list; nothing where some are."""
+    if not data:
+        return EMPTY
+    if len(data) > MOST_CALLS_BYTES:
+        return (f"the calls have {len(data):,} bytes; at most {MOST_CALLS_BYTES:,} are taken, {HEAD_BYTES} and its own bytes for each cut and one "
+                "for closing. Cut the list at a place where you can begin each part with the setting: the chips start fresh in each run.")
+    rest = data
+    while rest:
+        call = first_call(rest)
+        if call is None:
+            return why_no_call(len(data) - len(rest), rest)
+        rest = rest[len(call.written):]
+    return ""

@@ -1,88 +1,79 @@
 """What the proved program 'cuts' prints of calls on a serial line, taken apart call by call."""
-import re
 from typing import NamedTuple
 
 from commands import CannotRun
-from compared import NotReadable
-from records import ANSWER_BYTES, RECORD_BYTES
-from .calls import NotCalls, calls_of
-
-NAME = "cuts"
-NO_CALL = "no call\n"
-NONE = "the list is empty: it has no call"
-UNTOUCHED = b"\xa5"  # what each byte of an output holds before its call
-LINE = re.compile(r"(?:[0-9a-f]{2})+")
-ENDINGS_OF_CUTS, ENDINGS_OF_CLOSING = (0, 4, 12), (0, 3, 12)
+from compared import CUTS, NotReadable
+from compared.calls import CLOSING, Call, calls_of
+from compared.cuts import NO_CALL
+from compared.rooms import ROOM_BYTES
+from records import ANSWER_BYTES, RECORD_BYTES, records_of
+from .calls import why_none
 
 
-class Gave(NamedTuple):
-    """What a call gave."""
+class Made(NamedTuple):
+    """A call that was made, and what it gave."""
 
+    call: Call
+    at: int  # where it begins in the list
+    held: bytes  # of an unfinished record, before the call
     ending: int
     taken: int  # bytes of its own cut
-    answers: list  # each as its line
-    stayed: int  # bytes of the output
+    answers: list
+
+    @property
+    def closes(self):
+        """Whether it closes the line."""
+        return self.call.written == CLOSING
+
+    @property
+    def room(self):
+        """The room as the list has it; the output is no longer than the program takes."""
+        return int.from_bytes(self.call.written[1:1 + ROOM_BYTES], "big")
+
+    @property
+    def joined(self):
+        """The bytes that were held, and those of the cut that were taken."""
+        return self.held + self.call.cut[:self.taken]
+
+    @property
+    def records(self):
+        """The records that are answered."""
+        return records_of(self.joined)[:len(self.answers)]
+
+    @property
+    def left(self):
+        """What the line holds of an unfinished record after the call."""
+        return self.joined[RECORD_BYTES * len(self.answers):]
+
+    @property
+    def stayed(self):
+        """How many bytes of the output stayed as they were."""
+        return self.call.room - ANSWER_BYTES * len(self.answers)
 
 
-class Lines:
-    """The lines that were printed, taken from the first to the last; raises NotReadable where they are not as they are due."""
-
-    def __init__(self, text):
-        self.waiting = text.split("\n")[::-1]
-        self.held = 0  # bytes of an unfinished record
-
-    def take(self, length):
-        """The next line, of so many bytes."""
-        line = self.waiting.pop() if self.waiting else ""
-        if len(line) != 2 * length or not LINE.fullmatch(line):
+def made_calls(data, text):
+    """The calls of a list with what each gave. The bytes that a call took have to make up the records that it answered."""
+    readings, lines = CUTS.read_for(data, text), text.splitlines()
+    made, at, line, held = [], 0, 0, b""
+    for call, reading in zip(calls_of(data), readings):
+        one = Made(call, at, held, reading.ending, int(lines[line][2:6], 16), reading.answers)
+        held = one.left
+        if len(one.joined) < RECORD_BYTES * len(one.answers) or len(held) >= RECORD_BYTES:
             raise NotReadable
-        return bytes.fromhex(line)
-
-    def output(self, length):
-        """An output of so many bytes, eight to a line."""
-        return b"".join(self.take(min(ANSWER_BYTES, length - at)) for at in range(0, length, ANSWER_BYTES))
-
-    def gave(self, call):
-        """What a call gave. The bytes taken have to bear out the answers, and what stands behind these has to be untouched."""
-        counts = self.take(ANSWER_BYTES)
-        ending, taken, count = counts[0], int.from_bytes(counts[1:3], "big"), int.from_bytes(counts[3:5], "big")
-        output, written = self.output(call.output), ANSWER_BYTES * count
-        self.held += taken - RECORD_BYTES * count
-        fits = taken <= len(call.cut) and written <= len(output) and 0 <= self.held < RECORD_BYTES
-        if not fits or any(counts[5:]) or ending not in (ENDINGS_OF_CLOSING if call.closes else ENDINGS_OF_CUTS):
-            raise NotReadable
-        if output[written:].strip(UNTOUCHED):
-            raise NotReadable
-        answers = [output[at:at + ANSWER_BYTES].hex() for at in range(0, written, ANSWER_BYTES)]
-        return Gave(ending, taken, answers, len(output) - written)
-
-    def see_no_more(self):
-        """Sees that all lines are taken."""
-        if self.waiting != [""]:
-            raise NotReadable
+        made.append(one)
+        at += len(call.written)
+        line += call.lines
+    return made
 
 
-def given_by(calls, text):
-    """What each call gave, by what was printed of them all."""
-    lines = Lines(text)
-    gave = [lines.gave(call) for call in calls]
-    lines.see_no_more()
-    return gave
-
-
-def called_of(data, text):
-    """The calls of a list, each with what it gave, by what was printed for the list. Raises NotCalls where none was made."""
-    wrong = CannotRun(f"the program '{NAME}' printed what it does not print of these calls")
+def called(data, text):
+    """The calls that were made of a list, with what each gave, by what was printed for the list; none where it is none."""
+    wrong = CannotRun(f"the program '{CUTS.name}' printed what it does not print of these calls")
+    if why_none(data):
+        if text != (f"{NO_CALL}\n" if data else ""):
+            raise wrong
+        return []
     try:
-        calls = calls_of(data)
-    except NotCalls:
-        if text == NO_CALL:
-            raise
-        raise wrong from None
-    try:
-        called = list(zip(calls, given_by(calls, text)))
-    except NotReadable:
-        raise wrong from None
-    if not called:
-        raise NotCalls(NONE)
-    return called
+        return made_calls(data, text)
+    except NotReadable as problem:
+        raise wrong from problem

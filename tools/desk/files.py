@@ -29,7 +29,7 @@ class Sort(NamedTuple):
 
 BATCH = Sort("a batch", ".batch", MOST_BATCH_BYTES, batch.from_words, batch.from_hex, batch.Batch)
 SETTINGS = Sort("settings", ".settings", MOST_SETTINGS * SETTING_BYTES, sheets.from_words, sheets.from_hex, sheets.from_bytes)
-CALLS = Sort("calls", ".calls", calls.MOST_BYTES, calls.from_words, calls.from_hex, batch.Batch)
+CALLS = Sort("calls", ".calls", calls.MOST_CALLS_BYTES, calls.from_words, calls.from_hex, batch.Batch)
 
 
 def form_of(sort, name, said):

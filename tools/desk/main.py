@@ -68,12 +68,20 @@ def parts_of(given):
         yield from given
 
 
+def put_out_all(parts):
+    """Writes what a command gives as it comes. Where somebody stops that, the command may say more than that it is stopped."""
+    try:
+        for part in parts:
+            put_out(part)
+    except KeyboardInterrupt as stop:
+        parts.throw(stop)
+
+
 def run(asked):
     """Runs a command. Gives the exit status."""
     try:
         with contextlib.closing(parts_of(asked.run(asked))) as parts:
-            for part in parts:
-                put_out(part)
+            put_out_all(parts)
     except BadInput as problem:
         for message in problem.messages:
             tell(message)

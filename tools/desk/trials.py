@@ -81,6 +81,52 @@ COUNTED = (
           {"most.settings": 64 * b"setting;"}),
 )
 
+# Calls on a line: a strike in two cuts, without room and with it, closing, and a call after that.
+HALVES = b"cut 0 040000  # three bytes\r\ncut 7 00\ncut $8 00\nclose\nclose"
+HALVES_IN_HEX = b"01 0000 0003 040000 # three bytes\n01 0007 0001 00\n01 0008 0001 00\n02 02\n"
+HALVES_MADE = b"0000030000000000\n0400000000000000\na5a5a5a5a5a5a5\n0000010001000000\n" + LATCHED + b"0000000000000000\n0c00000000000000\n"
+HALVES_IN_WORDS = b"""\
+cut 0 040000  # three bytes
+    ended with 0: no whole record is left; 3 of 3 bytes taken; 04 00 00 held for the next call
+    0 of 0 output bytes stayed as they were
+cut 7 00
+    ended with 4: the next answer has no room; 0 of 1 byte taken; 04 00 00 held for the next call
+    7 of 7 output bytes stayed as they were
+    call again with the rest, with 8 bytes of room at least: 00
+cut 8 00
+    ended with 0: no whole record is left; 1 of 1 byte taken; nothing held
+    04000000  0400000200000000  strike: latch $0002, outside the picture
+    0 of 8 output bytes stayed as they were
+close
+    ended with 0: the line is closed, and no byte was held
+close
+    ended with 12: the line was closed before, and nothing changes
+"""
+OFF_A_LINE = (
+    Trial(("serial", "-"), 0, LATCHED + b"end 0\n", (), given=STRIKE),
+    Trial(("serial", "-"), 0, LATCHED + b"end 3\n", ("09 00", "2 of a record's 4"), given=STRIKE + b"\x09\0"),
+    Trial(("serial", "-"), 0, b"end 0\n", ("it has no record",)),
+    Trial(("serial", "long.bin"), 0, 5000 * LATCHED + b"end 0\n", (), {"long.bin": 5000 * STRIKE}),
+    Trial(("serial", "--explain", "cut.bin"), 0, b"04000000  0400000200000000  strike: latch $0002, outside the picture\n          end 3             "
+          b"the last bytes, 09, are 1 of a record's 4: the file was cut, or a byte is missing or too many somewhere before. All whole records are "
+          b"answered.\n", (), {"cut.bin": STRIKE + b"\x09"}),
+    Trial(("serial", "good.batch"), 2, b"", ("good.batch", "bytes are read here", "bytes good.batch | "), {"good.batch": b"strike\n"}),
+    Trial(("serial", "missing"), 2, b"", ("missing: there is no such file",)),
+    Trial(("serial", "."), 2, b"", ("this is a folder",)),
+    Trial(("cuts", "halves.calls"), 0, HALVES_IN_WORDS, (), {"halves.calls": HALVES}),
+    Trial(("cuts", "halves.hex"), 0, HALVES_IN_WORDS, (), {"halves.hex": HALVES_IN_HEX}),
+    Trial(("cuts", "--plain", "halves.calls"), 0, HALVES_MADE, (), {"halves.calls": HALVES}),
+    Trial(("cuts", "--plain", "halves.bin"), 0, b"0000000000000000\n0c00000000000000\n", (), {"halves.bin": b"\2\2"}),
+    Trial(("cuts", "--as", "words", "--plain", "-"), 0, b"0000000000000000\n", (), given=b"close"),
+    Trial(("cuts", "wrong.calls"), 2, b"", ("line 1: the room is missing", "line 3: there is no word 'clse'", "line 4: 8193", "0 to 8192", "'g'"),
+          {"wrong.calls": b"cut\ncut 8\nclse\ncut 8193\ncut 8 0g\n"}),
+    Trial(("cuts", "halves.batch"), 2, b"", ("halves.batch", ".calls (words)"), {"halves.batch": HALVES}),
+    Trial(("cuts", "--plain", "none.calls"), 0, b"", ("it has no call",), {"none.calls": b"# none\n"}),
+    Trial(("cuts", "--plain", "cut.hex"), 0, b"no call\n", ("call at byte 2", "1 of the 2 bytes"), {"cut.hex": b"02 01 0008 0002 04"}),
+    Trial(("cuts", "--plain", "most.bin"), 0, b"0000000000000000\n" + 4095 * b"0c00000000000000\n", (), {"most.bin": 4096 * b"\2"}),
+    Trial(("cuts", "--plain", "long.bin"), 0, b"no call\n", ("4,097 bytes", "at most 4,096"), {"long.bin": 4097 * b"\2"}),
+)
+
 TRIALS = (
     Trial(("listing", "good.batch"), 0, LATCHED + b"end 0\n", (), {"good.batch": b"strike  # latch 2\r\n"}),
     Trial(("listing", "good.hex"), 0, LATCHED + b"end 0\n", (), {"good.hex": b"\xef\xbb\xbf0400 # a part\n0000"}),
@@ -110,4 +156,5 @@ TRIALS = (
     Trial(("listen", "two.batch"), 2, b"", ("listen", "listing"), {"two.batch": b"strike; strike\n"}),
     Trial((), 2, b"", ("usage", "explain")),
     *COUNTED,
+    *OFF_A_LINE,
 )

@@ -21,8 +21,6 @@ OF_CUTS_TAKEN = [
     Change(LINE, NO_ROOM, f"                self.held.clear();\n{NO_ROOM}", "held bytes are dropped where there is no room"),
     Change(LINE, "bytes_taken += RECORD_BYTES - self.held.len();", "bytes_taken += RECORD_BYTES;",
            "held bytes are told as taken once more"),
-    Change(LINE, "&mut output[answers_written * ANSWER_BYTES..]", "&mut output[..]", "the answers of a call are all put in one place"),
-    Change(LINE, "            self.bench = replayed.bench;\n", "", "each record is done on fresh chips"),
 ]
 
 OF_CLOSING = [
@@ -47,8 +45,6 @@ OF_SERIAL = [
            "if taken.answers_written > 0 || taken.ending != LineEnding::OutputFull {",
            "only the first record of a piece is answered"),
     Change(SERIAL, "end_line(line.close().number())", "end_line(0)", "the line ends with 0 whatever is held"),
-    Change(SERIAL, "PIECE_BYTES: usize = 256", "PIECE_BYTES: usize = 255", "a byte less is taken at once",
-           same="in whatever pieces the bytes come, the answers are the same"),
 ]
 
 OF_LISTS = [
@@ -59,10 +55,9 @@ OF_LISTS = [
            "what follows the last whole call is left out"),
     Change(CUTS, "after_head.get(..length)?;", "&after_head[..length.min(after_head.len())];",
            "a cut that breaks off is made as far as it goes"),
-    Change(CUTS, "_ => None,", "[3.., ref later @ ..] => Some((Call::Close, later)),\n        _ => None,",
+    Change(CUTS, "_ => None,", "[first, ref later @ ..] if first > CLOSE => Some((Call::Close, later)),\n        _ => None,",
            "any greater byte closes the line"),
     Change(CUTS, "from_be_bytes([room_high", "from_le_bytes([room_high", "a call's room has its low byte first"),
-    Change(CUTS, "from_be_bytes([length_high", "from_le_bytes([length_high", "a cut's length has its low byte first"),
     Change(CUTS, "untouched_output(room)", "untouched_output(room.min(8_191))", "the largest room of a call is one byte short"),
     Change(CUTS, "call_text(&mut line, call)", "call_text(&mut line.clone(), call)", "each call has a fresh line"),
 ]

@@ -28,7 +28,9 @@ def text_for(name, fault, given):
     """What is printed for an input."""
     prints_nothing = (fault == "prints nothing for 4,092 bytes" and len(given) == 4092
                       or fault == "prints nothing for a room and a byte" and name == "rooms" and len(given) == 3
-                      or fault == "prints nothing for 64 settings" and name == "counts" and len(given) == 1024)
+                      or fault == "prints nothing for 64 settings" and name == "counts" and len(given) == 1024
+                      or fault == "prints nothing for 256 bytes off the line" and name == "serial" and len(given) == 256
+                      or fault == "prints nothing for 4,096 closings" and name == "cuts" and given == 4096 * b"\2")
     return b"" if prints_nothing else f"{name}: {len(given)} bytes, {sum(given)}\n".encode()
 
 

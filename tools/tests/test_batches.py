@@ -6,7 +6,7 @@ import unittest
 from batches import DEAL, SHARES, SORT_NAMES, make_batch, settings
 from batches.controller import cell_address, cell_cut_off, frame_length
 from batches.seeds import FIXED_SEED, OF_COMMIT, WHOLE_RUN, seeds_of, share
-from compared import COUNTS, LISTING, PROGRAMS, REPLAYS
+from compared import COUNTS, LISTING, PROGRAMS, ROOMS
 from records import (
     KEPT_BITS, MOST_BATCH_BYTES, MOST_SETTINGS, SETTING_BYTES, are_settings, clocks, fetches, is_allowed, locate, put, read, records_of,
     reset_controller, select, settings_of, strike,
@@ -28,9 +28,9 @@ class Batches(unittest.TestCase):
         self.assertEqual(len(DEAL), sum(share_of for shares in SHARES.values() for share_of in shares.values()))
         self.assertEqual(len(BATCHES) % len(DEAL), 0)
 
-    def test_a_whole_run_has_as_many_replays_as_ever(self):
-        replays = sum(sum(SHARES[program].values()) for program in REPLAYS)
-        self.assertEqual(replays * WHOLE_RUN // len(DEAL), 600)
+    def test_a_whole_run_has_as_many_batches_and_settings_as_ever(self):
+        times = WHOLE_RUN // len(DEAL)
+        self.assertEqual([times * sum(SHARES[program].values()) for program in (LISTING, ROOMS, COUNTS)], [516, 84, 150])
 
     def test_each_program_has_batches(self):
         self.assertEqual(set(SHARES), set(PROGRAMS))

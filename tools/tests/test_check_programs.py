@@ -3,7 +3,8 @@ import pathlib
 import sys
 import unittest
 
-from compared import COUNTS, LISTING, PROGRAMS, ROOMS
+from compared import COUNTS, CUTS, LISTING, PROGRAMS, ROOMS, SERIAL
+from compared.calls import calls_of
 from edges import BROKEN, check, runs_on_broken, runs_on_inputs
 from programs import Pair
 
@@ -27,12 +28,12 @@ def fault_found(fault, lengths):
 
 
 class CheckPrograms(unittest.TestCase):
-    """One program that is right and five that are wrong."""
+    """One program that is right and some that are wrong."""
 
     def test_a_right_program_is_taken(self):
         count, found = fault_found("none", (0, 3, 4092))
         self.assertIsNone(found)
-        self.assertEqual(count, 57)
+        self.assertEqual(count, 88)
 
     def test_nothing_printed_for_a_length(self):
         self.assertIn(4092, LISTING.edge_lengths)
@@ -57,6 +58,16 @@ class CheckPrograms(unittest.TestCase):
         _, found = fault_found("prints nothing for 64 settings", (1024,))
         self.assertIn("counts, 1024 bytes, zeros", found)
 
+    def test_nothing_printed_for_as_many_bytes_as_are_read_at_a_time(self):
+        self.assertIn(256, SERIAL.edge_lengths)
+        _, found = fault_found("prints nothing for 256 bytes off the line", (256,))
+        self.assertIn("serial, 256 bytes, zeros", found)
+
+    def test_nothing_printed_for_the_longest_list_of_calls(self):
+        self.assertIn(4096, CUTS.edge_lengths)
+        _, found = fault_found("prints nothing for 4,096 closings", (4096,))
+        self.assertIn("cuts, 4096 bytes, closings", found)
+
 
 class Runs(unittest.TestCase):
     """The runs that are made, without making them."""
@@ -79,6 +90,9 @@ class Runs(unittest.TestCase):
         for run in runs:
             self.assertTrue(run.given)
             self.assertEqual(run.given, run.pair.program.good_input)
+
+    def test_a_good_list_of_calls_has_something_printed(self):
+        self.assertTrue(calls_of(CUTS.good_input))
 
 
 if __name__ == "__main__":

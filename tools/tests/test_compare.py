@@ -13,7 +13,7 @@ from batches.outputs import ENOUGH, Tally
 from commands import TOP
 from compared import COUNTS, LISTING, ROOMS
 from programs import Pair
-from records import KIND_NAMES, REFUSAL_NAMES
+from records import CALL_ENDING_NAMES, KIND_NAMES, REFUSAL_NAMES
 
 COMPARE = runpy.run_path(str(TOP / "tools" / "compare"), run_name="compare")
 SEED = 11
@@ -111,9 +111,9 @@ class Counting(unittest.TestCase):
 
     def test_all_that_is_not_seen_is_told(self):
         lines = self.counted().seen_too_seldom()
-        self.assertEqual(len(lines), len(KIND_NAMES) + len(REFUSAL_NAMES) + 2)
-        self.assertEqual(lines[-2:], [f"reports ended with 0 (done) 0 times, fewer than {ENOUGH}",
-                                      f"reports ended with 10 (the bytes are not 1 to 64 whole settings) 0 times, fewer than {ENOUGH}"])
+        self.assertEqual(len(lines), len(KIND_NAMES) + len(REFUSAL_NAMES) + 2 + len(CALL_ENDING_NAMES) + 1)
+        self.assertEqual(lines[-7:-5], [f"reports ended with 0 (done) 0 times, fewer than {ENOUGH}",
+                                        f"reports ended with 10 (the bytes are not 1 to 64 whole settings) 0 times, fewer than {ENOUGH}"])
 
     def test_reports_that_are_seen_often_enough(self):
         self.assertEqual(self.seldom("reports", (COUNTS, REPORT), (COUNTS, "refused 10\n")), [])

@@ -5,7 +5,7 @@ from batches import Batch
 from batches.outputs import describe_difference
 from checks.crates import programs
 from commands import TOP
-from compared import COUNTS, LISTING, NAMES, PROGRAMS, REPLAYS, ROOMS, NotReadable
+from compared import COUNTS, CUTS, LISTING, NAMES, PROGRAMS, ROOMS, SERIAL, NotReadable
 from compared.rooms import in_room
 from programs import Outcome
 
@@ -28,6 +28,8 @@ class Commands(unittest.TestCase):
         self.assertEqual(LISTING.second_words(TOP / "second"), [str(TOP / "second")])
         self.assertEqual(ROOMS.second_words(TOP / "second"), [str(TOP / "second"), "--room"])
         self.assertEqual(COUNTS.second_words(TOP / "second"), [str(TOP / "second"), "--counts"])
+        self.assertEqual(SERIAL.second_words(TOP / "second"), [str(TOP / "second"), "--serial"])
+        self.assertEqual(CUTS.second_words(TOP / "second"), [str(TOP / "second"), "--cuts"])
 
     def test_each_is_a_proved_program_of_its_own(self):
         self.assertEqual([program.proved for program in PROGRAMS], [TOP / "target" / "bin" / name for name in NAMES])
@@ -53,9 +55,11 @@ class Inputs(unittest.TestCase):
         self.assertEqual(COUNTS.told_of_input(b""), ["settings in hex:", "  (no byte)"])
 
     def test_each_program_is_tried_at_its_edges(self):
-        for program in REPLAYS:
+        for program in (LISTING, ROOMS):
             self.assertEqual(program.edge_lengths, (*range(0, 13), *range(4084, 4101)))
+        self.assertEqual(SERIAL.edge_lengths, (*range(0, 13), *range(252, 265), *range(508, 517), *range(4084, 4101)))
         self.assertEqual(COUNTS.edge_lengths, (*range(0, 18), 31, 32, 33, *range(1007, 1027)))
+        self.assertEqual(CUTS.edge_lengths, (*range(0, 13), *range(4090, 4099)))
 
     def test_the_inputs_of_a_length_have_it(self):
         for program in PROGRAMS:

@@ -7,9 +7,9 @@ from unittest import mock
 
 from batches import Batch
 from commands import TOP, CannotRun
-from compared import COUNTS, LISTING, PROGRAMS, ROOMS
+from compared import COUNTS, CUTS, LISTING, PROGRAMS, ROOMS, SERIAL
 from linked.places import PLACES
-from mutation import CHANGES, counts
+from mutation import CHANGES, counts, line
 from mutation.change import Change
 from mutation.workshop import BY_COMPARISON, BY_NEITHER, BY_TESTS, Verdict, Workshop, named, see_table
 from programs import Outcome
@@ -18,9 +18,13 @@ MUTANTS = runpy.run_path(str(TOP / "tools" / "mutants"), run_name="mutants")
 # It stands in for a changed program.
 BY_ITS_WORDS = """#!/bin/sh
 cat >/dev/null
-case "$*" in "") echo "too long" ;; --room) echo "no room" ;; --counts) echo "refused 10" ;; --places) echo "11" ;; esac
+case "$*" in
+    "") echo "too long" ;; --room) echo "no room" ;; --counts) echo "refused 10" ;; --places) echo "11" ;;
+    --serial) echo "end 0" ;; --cuts) echo "no call" ;;
+esac
 """
-ALIKE = {LISTING: "too long\n", ROOMS: "no room\n", COUNTS: "refused 10\n", PLACES: "11\n"}
+ALIKE = {LISTING: "too long\n", ROOMS: "no room\n", COUNTS: "refused 10\n", PLACES: "11\n", SERIAL: "end 0\n", CUTS: "no call\n"}
+NO_LIST = b"\x03"  # of calls; the other programs can print their words for it, too
 
 
 class Table(unittest.TestCase):
@@ -46,6 +50,10 @@ class Table(unittest.TestCase):
         self.assertLessEqual(files - {"counts/mod.rs"}, {change.file for change in counts.CHANGES})
         self.assertLessEqual(set(counts.CHANGES), set(CHANGES))
 
+    def test_the_line_is_changed_in_each_of_its_files(self):
+        self.assertLessEqual({"line.rs", "serial.rs", "cuts.rs"}, {change.file for change in line.CHANGES})
+        self.assertLessEqual(set(line.CHANGES), set(CHANGES))
+
 
 class Trial(unittest.TestCase):
     """A changed program on batches of all programs."""
@@ -53,7 +61,7 @@ class Trial(unittest.TestCase):
     def first_difference(self, **others):
         """The number of the first batch on which the stand-in differs from what the proved programs print, some of them others."""
         outputs = {program: others.get(program.name, text) for program, text in ALIKE.items()}
-        batches = [Batch(number, "some sort", program, b"") for number, program in enumerate(outputs, 1)]
+        batches = [Batch(number, "some sort", program, NO_LIST) for number, program in enumerate(outputs, 1)]
         with tempfile.TemporaryDirectory() as folder:
             workshop = Workshop(pathlib.Path(folder))
             workshop.program = pathlib.Path(folder) / "program"
@@ -71,6 +79,8 @@ class Trial(unittest.TestCase):
         self.assertEqual(self.first_difference(listing="end 0\n", rooms="too long\n"), 1)
         self.assertEqual(self.first_difference(counts="0 0 0 0 1 0 0\ntotal 0 0 0 0 1 0 0\n"), 3)
         self.assertEqual(self.first_difference(places="10\n"), 4)
+        self.assertEqual(self.first_difference(serial="end 3\n"), 5)
+        self.assertEqual(self.first_difference(cuts=""), 6)
 
 
 class Told(unittest.TestCase):
@@ -102,7 +112,7 @@ class Proved(unittest.TestCase):
     def test_the_batches_of_the_gate_and_the_reports_into_places(self):
         stand_ins = {
             "find_kit": lambda: None, "c_compiler": lambda kit: [], "build_host": lambda kit, compiler, name: name,
-            "running": lambda kit, program: ["linked", program], "outcome_of": lambda command, given: command,
+            "running": lambda kit, program: ["linked", program], "outcome_on": lambda command, batch, reader: [*command, reader],
             "pairs_with": lambda kit: {program: mock.Mock(proved=[program.name]) for program in PROGRAMS},
         }
         with mock.patch.dict(MUTANTS["proved_outcomes"].__globals__, stand_ins):
@@ -110,7 +120,7 @@ class Proved(unittest.TestCase):
         self.assertEqual([batch.number for batch, _ in proved[:MUTANTS["BATCHES"]]], list(range(1, MUTANTS["BATCHES"] + 1)))
         self.assertEqual({batch.program for batch, _ in proved}, {*PROGRAMS, PLACES})
         for batch, command in proved:
-            self.assertEqual(command, ["linked", "places"] if batch.program is PLACES else [batch.program.name])
+            self.assertEqual(command, ["linked", "places", "proved"] if batch.program is PLACES else [batch.program.name, "proved"])
 
 
 if __name__ == "__main__":

@@ -20,7 +20,8 @@ use Rattle.line.specs.private.Calls.{firstOf}
 use Rattle.line.specs.declared.held.Held.{Held}
 use Rattle.line.specs.declared.calls.Called.{Called}
 use Rattle.line.proofs.Holding.{held-most}
-use Rattle.line.proofs.Calling.{Does, does, full-outcome, waits-outcome, by-ending, outcome-within}
+use Rattle.line.proofs.Calling.{Does, does, full-outcome, waits-outcome, by-ending}
+use Rattle.line.proofs.Accepting.{accept-within}
 
 -- what comes first, k bytes of the cut and one answer, and then a further call
 abbrev moreOf : ℕ → Answer → Outcome → Outcome
@@ -78,11 +79,10 @@ module _ (b : Bench) (h : Held) (cut : List ℕ) (room k : ℕ) (lacks : k + len
 -- what a call on the rest of a cut told, within that cut and its output
 pub rest-within : (b : Bench) (rest out : List ℕ) (r : Called) (cut : List ℕ) (k : ℕ) → rest ≡ drop k cut → r ≡ acceptOf (emptyOf b) rest out
     → (r .taken ≤ length cut - k) × (8 * r .answers ≤ length out)
-unfolding acceptOf
 rest-within b rest out r cut k e q =
-    let w = outcome-within (emptyOf b) rest (length out) in
+    let w = accept-within (emptyOf b) rest out r q in
     let long : length rest ≡ length cut - k = rw e (length-drop k cut) in
-    rw q (omega (arith, w .0), w .1)
+    (omega (arith, w .0), w .1)
 
 -- eight bytes laid at the front, and what then stands behind them
 module _ (out p : List ℕ) (eight : length p ≡ 8) (free : 8 ≤ length out) (out₁ : List ℕ) (e : out₁ ≡ laidAt out 0 p) where

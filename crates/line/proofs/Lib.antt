@@ -1,4 +1,5 @@
 pub mod Holding
 pub mod Calling
+pub mod Accepting
 pub mod Meeting
 pub mod Completing

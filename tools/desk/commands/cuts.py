@@ -1,8 +1,11 @@
 """Calls on a serial line, tried one after the other."""
+from compared import CUTS
+from compared.calls import HEAD_BYTES, MOST_CALLS_BYTES
+from compared.rooms import MOST_ROOM
 from records import ANSWER_BYTES
-from ..calling import why_none, worded
-from ..calls import HEAD_BYTES, MOST_BYTES, MOST_ROOM, SHAPES
-from ..cutting import NAME
+from ..calling import worded
+from ..calls import SHAPES, why_none
+from ..cutting import called
 from ..files import read_calls
 from ..proved import printed
 from ..terminal import Paper, tell
@@ -36,7 +39,7 @@ A call ends with
 
 {in_columns(ENDINGS, 3)}
 
-At most {MOST_BYTES:,} bytes of calls are taken: {HEAD_BYTES} and its own bytes for each cut, and
+At most {MOST_CALLS_BYTES:,} bytes of calls are taken: {HEAD_BYTES} and its own bytes for each cut, and
 one for closing. Of more, and of bytes that are no calls, the program says
 'no call' and makes none. Every byte of an output is $A5 before its call.
 
@@ -54,13 +57,13 @@ def add_arguments(parser):
 def run(asked):
     """What each call gave in words, or the program's own lines, with a word on standard error where no call was made."""
     batch = read_calls(asked.file, asked.form)
-    text = printed(NAME, batch.data)
+    text = printed(CUTS.name, batch.data)
+    calls = called(batch.data, text)
     if not asked.plain:
-        return worded(batch, text, Paper.of_output())
-    why = why_none(batch, text)
-    if why:
-        tell(why)
+        return worded(batch, calls, Paper.of_output())
+    if not calls:
+        tell(why_none(batch.data))
     return text
 
 
-COMMAND = Command(NAME, "try cuts and a closing on a serial line", ABOUT, MORE, add_arguments, run)
+COMMAND = Command(CUTS.name, "try cuts and a closing on a serial line", ABOUT, MORE, add_arguments, run)

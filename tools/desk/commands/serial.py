@@ -1,4 +1,5 @@
 """Records off a serial line, each answered as soon as it has come."""
+from compared import SERIAL
 from ..explaining import Explained
 from ..proved import fed, words_for
 from ..streaming import Plain, answered
@@ -6,7 +7,7 @@ from ..streams import SET_UP, see_a_stream, stream
 from ..terminal import WHO, Paper
 from .command import Command
 
-NAME = "serial"
+NAME = SERIAL.name
 PORT = "/dev/ttyUSB0"
 ABOUT = """\
 Reads bytes as they come, from a serial port, a pipe or a file, and prints the
