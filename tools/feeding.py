@@ -104,7 +104,7 @@ def outcome_fed(command, plan, seconds=SECONDS_FOR_ONE):
 
 
 def outcome_on(command, batch, reader, seconds=SECONDS_FOR_ONE):
-    """What a program prints for a batch, which comes piece by piece where it is read so. reader tells the proved from the second program."""
+    """What a program prints for a batch, which comes piece by piece where it is read so. reader tells the proved from the second one."""
     if batch.program.reads_as_it_comes:
         return outcome_fed(command, plan_for(batch, reader), seconds)
     return outcome_of(command, batch.input, seconds)

@@ -17,7 +17,7 @@ class Batch(NamedTuple):
     sort: str
     program: Program
     input: bytes
-    seed: int = FIXED_SEED
+    seed: int = FIXED_SEED  # by which, and by the number, it is cut where it comes in pieces
 
 
 # How many of each 150 batches are of each sort, by the program that reads them.

@@ -59,15 +59,14 @@ def handed_over(rng, batch, short_of_ten, some_length):
     return calls
 
 
-def listed(calls, *last):
-    """A list of as many of the calls as have a place in one before the last ones, and of these."""
-    end = b"".join(last)
+def listed(calls, last=b""):
+    """A list of as many of the calls as have a place in one before the last, and of that."""
     made = b""
     for call in calls:
-        if len(made + call + end) > MOST_CALLS_BYTES:
+        if len(made + call + last) > MOST_CALLS_BYTES:
             break
         made += call
-    return made + end
+    return made + last
 
 
 def cuts_with_room(rng):
@@ -103,12 +102,13 @@ def byte_by_byte(rng):
 
 
 def calls_after_closing(rng):
-    """A line closed early, at times with bytes held, and then cuts with room and without, empty ones too, and closings."""
-    held = rng.choice((b"", mixed.some_good_batch(rng)[:rng.randint(1, 40)]))
+    """A line closed before all of a batch is handed over, at times with bytes held, and then cuts with room and without, empty ones too,
+    and closings."""
+    early = handed_over(rng, some_batch(rng, 300), 4, cut_length)
     late = handed_over(rng, some_batch(rng, 300), 4, cut_length)
     late += [CLOSING] * rng.randint(1, 4) + [in_call(room, b"") for room in (0, 7, 8, 20)]
     rng.shuffle(late)
-    return listed([in_call(enough_room(rng, needed_room(0, len(held))), held), CLOSING, *late])
+    return listed([*early[:rng.randint(0, len(early))], CLOSING, *late])
 
 
 def greatest_rooms(rng):

@@ -20,7 +20,7 @@ class Plan(NamedTuple):
 
 
 def cut_places(rng, length):
-    """Where so many bytes are cut: behind some of the first records, at other places, and from some of these on byte by byte for a while."""
+    """Where so many bytes are cut: behind some of the first records, at other places, and from some of these byte by byte for a while."""
     places = set(range(0, RECORD_BYTES * rng.randint(0, MOST_FIRST) + 1, RECORD_BYTES))
     for _ in range(rng.randint(0, MOST_STRETCHES)):
         place = rng.randint(0, length)

@@ -53,8 +53,8 @@ class Cuts(Program):
         lines = [bytes.fromhex(line) for line in text.splitlines()]
         if len(lines) != sum(call.lines for call in calls):
             raise NotReadable
-        lines = iter(lines)
-        return [read_call(call, [next(lines) for _ in range(call.lines)]) for call in calls]
+        rest = iter(lines)
+        return [read_call(call, [next(rest) for _ in range(call.lines)]) for call in calls]
 
     def count(self, given, text, tally):
         """By the endings of the calls and the answers."""

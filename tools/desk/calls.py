@@ -60,8 +60,8 @@ def why_no_call(at, rest):
     if len(rest) < HEAD_BYTES:
         return f"the call at byte {at + 1} is cut off: {len(rest)} of the {HEAD_BYTES} bytes are there that come before a cut."
     length = int.from_bytes(rest[HEAD_BYTES - 2:HEAD_BYTES], "big")
-    return (f"the call at byte {at + 1} is cut off: {len(rest) - HEAD_BYTES:,} of the {number_of(length, 'byte', 'bytes')} are there that its cut "
-            "is said to have.")
+    return (f"the call at byte {at + 1} is cut off: {len(rest) - HEAD_BYTES:,} of the {number_of(length, 'byte', 'bytes')} are there that "
+            "its cut is said to have.")
 
 
 def why_none(data):
@@ -69,8 +69,9 @@ def why_none(data):
     if not data:
         return EMPTY
     if len(data) > MOST_CALLS_BYTES:
-        return (f"the calls have {len(data):,} bytes; at most {MOST_CALLS_BYTES:,} are taken, {HEAD_BYTES} and its own bytes for each cut and one "
-                "for closing. Cut the list at a place where you can begin each part with the setting: the chips start fresh in each run.")
+        return (f"the calls have {len(data):,} bytes; at most {MOST_CALLS_BYTES:,} are taken, {HEAD_BYTES} and its own bytes for each cut "
+                "and one for closing. Cut the list at a place where you can begin each part with the setting: the chips start fresh in "
+                "each run.")
     rest = data
     while rest:
         call = first_call(rest)

@@ -21,7 +21,7 @@ First steps:
   ./vorstelpijp explain examples/march.batch     the March case, line by line
   ./vorstelpijp explain --help                   how a batch is written in words
   ./vorstelpijp counts examples/boards.settings  boards compared by numbers
-  ./vorstelpijp cuts examples/halves.calls       a record that comes in two halves
+  ./vorstelpijp cuts examples/halves.calls       a record that comes in halves
   ./vorstelpijp serial --help                    records off a serial port
 
 A program is proved and built when it is first needed, which takes some minutes

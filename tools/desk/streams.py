@@ -21,8 +21,8 @@ def see_a_stream(name):
         return
     see_a_file(name)
     if name.lower().endswith(NO_BYTES):
-        raise BadInput(f"{name}: bytes are read here, and by its name this holds none; expected a port, a pipe or a file of bytes, and of a "
-                       f"batch in words or hex './{WHO} bytes {name} | ./{WHO} serial -'")
+        raise BadInput(f"{name}: bytes are read here, and by its name this file is in words or hex; expected a port, a pipe or a file of "
+                       f"bytes, and for a batch './{WHO} bytes FILE | ./{WHO} serial -'")
     if not os.access(name, os.R_OK):
         raise BadInput(f"{name}: you may not read it; serial ports often belong to a group of their own, such as 'dialout'")
 

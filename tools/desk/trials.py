@@ -107,10 +107,10 @@ OFF_A_LINE = (
     Trial(("serial", "-"), 0, LATCHED + b"end 3\n", ("09 00", "2 of a record's 4"), given=STRIKE + b"\x09\0"),
     Trial(("serial", "-"), 0, b"end 0\n", ("it has no record",)),
     Trial(("serial", "long.bin"), 0, 5000 * LATCHED + b"end 0\n", (), {"long.bin": 5000 * STRIKE}),
-    Trial(("serial", "--explain", "cut.bin"), 0, b"04000000  0400000200000000  strike: latch $0002, outside the picture\n          end 3             "
-          b"the last bytes, 09, are 1 of a record's 4: the file was cut, or a byte is missing or too many somewhere before. All whole records are "
-          b"answered.\n", (), {"cut.bin": STRIKE + b"\x09"}),
-    Trial(("serial", "good.batch"), 2, b"", ("good.batch", "bytes are read here", "bytes good.batch | "), {"good.batch": b"strike\n"}),
+    Trial(("serial", "--explain", "cut.bin"), 0, b"04000000  0400000200000000  strike: latch $0002, outside the picture\n"
+          b"          end 3             the last bytes, 09, are 1 of a record's 4: the file was cut, or a byte is missing or too many "
+          b"somewhere before. All whole records are answered.\n", (), {"cut.bin": STRIKE + b"\x09"}),
+    Trial(("serial", "good.batch"), 2, b"", ("good.batch", "bytes are read here", "bytes FILE | "), {"good.batch": b"strike\n"}),
     Trial(("serial", "missing"), 2, b"", ("missing: there is no such file",)),
     Trial(("serial", "."), 2, b"", ("this is a folder",)),
     Trial(("cuts", "halves.calls"), 0, HALVES_IN_WORDS, (), {"halves.calls": HALVES}),
@@ -118,7 +118,8 @@ OFF_A_LINE = (
     Trial(("cuts", "--plain", "halves.calls"), 0, HALVES_MADE, (), {"halves.calls": HALVES}),
     Trial(("cuts", "--plain", "halves.bin"), 0, b"0000000000000000\n0c00000000000000\n", (), {"halves.bin": b"\2\2"}),
     Trial(("cuts", "--as", "words", "--plain", "-"), 0, b"0000000000000000\n", (), given=b"close"),
-    Trial(("cuts", "wrong.calls"), 2, b"", ("line 1: the room is missing", "line 3: there is no word 'clse'", "line 4: 8193", "0 to 8192", "'g'"),
+    Trial(("cuts", "wrong.calls"), 2, b"",
+          ("line 1: the room is missing", "line 3: there is no word 'clse'", "line 4: 8193", "0 to 8192", "line 5: 'g'"),
           {"wrong.calls": b"cut\ncut 8\nclse\ncut 8193\ncut 8 0g\n"}),
     Trial(("cuts", "halves.batch"), 2, b"", ("halves.batch", ".calls (words)"), {"halves.batch": HALVES}),
     Trial(("cuts", "--plain", "none.calls"), 0, b"", ("it has no call",), {"none.calls": b"# none\n"}),

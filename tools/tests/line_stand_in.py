@@ -7,9 +7,11 @@ of its record, 0, and the number of this process.
 """
 import os
 import sys
+import time
 
 BYTES_AT_ONCE = 300
 RECORD_BYTES = 4
+LONG = 60  # seconds
 
 
 def answers_of(listing):
@@ -39,6 +41,8 @@ def main(fault, listing=None):
                 return 0
             put("answer\n" if fault == "prints a word" else next(lines)(rest[0]))
             rest = rest[RECORD_BYTES:]
+    if fault == "never ends":
+        time.sleep(LONG)
     put("end 4\n" if fault == "ends with 4" else f"end {3 if rest else 0}\n")
     return 1 if fault == "has a status" else 0
 

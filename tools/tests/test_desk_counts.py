@@ -1,9 +1,6 @@
 """Settings from words, hex and bytes, and what is counted of them as a table."""
 import os
 import random
-import subprocess
-import sys
-import tempfile
 import unittest
 from unittest import mock
 
@@ -14,10 +11,11 @@ from desk.commands import COMMANDS
 from desk.counting import COLUMNS, remarks_of, rows_of, table
 from desk.files import read_settings
 from desk.lines import BadInput
-from desk.main import command_line, main
+from desk.main import command_line
 from desk.sheets import SHAPES, Setting, bytes_of, from_bytes, from_hex, from_words
 from desk.terminal import Paper
 from records import are_settings
+from tests.desk_tree import CommandTest, FilesTest, HelpTest, desk_alone
 from tests.examples_tree import ExamplesTest
 
 # Sheets, and of each setting there the name and the registers that are not 0.
@@ -307,22 +305,6 @@ class Refused(unittest.TestCase):
                     table(from_bytes(given), text, Paper())
 
 
-class FilesTest(unittest.TestCase):
-    """A base for tests with files."""
-
-    def setUp(self):
-        folder = tempfile.TemporaryDirectory()
-        self.addCleanup(folder.cleanup)
-        self.folder = folder.name
-
-    def path(self, name, content):
-        """A file of a name."""
-        path = os.path.join(self.folder, name)
-        with open(path, "wb") as file:
-            file.write(content)
-        return path
-
-
 class Files(FilesTest):
     """Which file is read as what."""
 
@@ -349,24 +331,11 @@ class Files(FilesTest):
             read_settings("/dev/zero", "bytes")
 
 
-class Command(FilesTest):
+class Command(CommandTest):
     """The command with a program that stands in for the proved one."""
 
-    def call(self, *words, answer=A_COUNTED):
-        """Calls it, what the program prints being given. Gives its status, what it says on both outputs, and what the program was asked."""
-        said = {1: b"", 2: b""}
-
-        def write(number, data):
-            """Keeps what would be written to an output."""
-            said[number] += data
-            return len(data)
-
-        stands_in = mock.Mock(return_value=answer)
-        if isinstance(answer, Exception):
-            stands_in.side_effect = answer
-        with mock.patch("desk.commands.counts.printed", stands_in), mock.patch("os.write", write), mock.patch("os.isatty", lambda number: False):
-            status = main(["counts", *words])
-        return status, said[1].decode(), said[2].decode(), [call.args for call in stands_in.call_args_list]
+    COMMAND = "counts"
+    ANSWER = A_COUNTED
 
     def test_a_table(self):
         path = self.path("a.settings", b"setting A\nR0 = 3; R1 = 2; R4 = 129; R5 = 1; R6 = 2; R9 = 1\n")
@@ -423,37 +392,25 @@ class Command(FilesTest):
         self.assertEqual(read.call_args.args[1:], ("standard input", 0))
 
     def test_a_wrong_command_line(self):
-        for words in (("counts",), ("counts", "a.settings", "b.settings"), ("counts", "--as", "word", "a"), ("counts", "--plan", "a")):
-            with self.subTest(words), mock.patch("sys.stderr"), self.assertRaises(SystemExit) as caught:
-                main(list(words))
-            self.assertEqual(caught.exception.code, 2)
+        for words in ((), ("a.settings", "b.settings"), ("--as", "word", "a"), ("--plan", "a")):
+            self.assertNoCommandLine(*words)
 
 
-class Program(unittest.TestCase):
+class Program(HelpTest):
     """The command as a user calls it, without the toolchain."""
 
-    def desk(self, *words, given=b""):
-        """Runs it. Gives its status, and what it says on both outputs."""
-        done = subprocess.run([sys.executable, TOP / "vorstelpijp", *words], input=given, capture_output=True,
-                              env={**os.environ, "PATH": "/nowhere", "COLUMNS": "80"})
-        return done.returncode, done.stdout.decode(), done.stderr.decode()
-
     def test_the_program_is_needed(self):
-        self.assertEqual(self.desk("counts", "--as", "words", "-", given=b"R0 = 1\n"), (1, "", "vorstelpijp: the command rt is not on the PATH\n"))
+        self.assertEqual(desk_alone("counts", "--as", "words", "-", given=b"R0 = 1\n"),
+                         (1, "", "vorstelpijp: the command rt is not on the PATH\n"))
 
     def test_a_wrong_input_is_told_before_anything_is_run(self):
-        status, printed, said = self.desk("counts", "--as", "words", "-", given=b"R0 = 1\nR16 = 1\n")
+        status, printed, said = desk_alone("counts", "--as", "words", "-", given=b"R0 = 1\nR16 = 1\n")
         self.assertEqual((status, printed), (2, ""))
         self.assertIn("standard input, line 2: 'R16' is none of the registers R0 to R15", said)
 
     def test_the_help_is_one_page(self):
-        status, printed, said = self.desk("counts", "--help")
-        self.assertEqual((status, said), (0, ""))
-        lines = printed.splitlines()
-        self.assertLessEqual(len(lines), 60)
-        self.assertEqual([line for line in lines if len(line) > 80], [])
-        for part in (*(f"  {shape} " for shape, _meaning in SHAPES), *(f"  {head} " for head, _meaning in COLUMNS), "--plain", "--as", "Exit status: 0"):
-            self.assertIn(part, printed)
+        self.assertOnePage("counts", *(f"  {shape} " for shape, _meaning in SHAPES), *(f"  {head} " for head, _meaning in COLUMNS),
+                           "--plain", "--as", "Exit status: 0")
 
     def test_it_is_one_of_the_commands(self):
         self.assertEqual([command.name for command in COMMANDS].count("counts"), 1)

@@ -10,6 +10,7 @@ import subprocess
 import sys
 import tempfile
 import termios
+import time
 import tty
 import unittest
 from unittest import mock
@@ -17,19 +18,21 @@ from unittest import mock
 import examples
 from commands import TOP, CannotRun
 from desk.batch import Batch
-from desk.commands import serial
+from desk.commands import COMMANDS
 from desk.explaining import Explained, explain
 from desk.files import read_batch
 from desk.lines import BadInput
-from desk.main import main
+from desk.main import command_line, main
+from desk.proved import fed
 from desk.streaming import Plain, answered, stopped
 from desk.streams import PIECE_BYTES, pieces_of, see_a_stream, stream
 from desk.terminal import Paper
 from desk.trials import edges
 from records import records_of
+from tests.desk_tree import CommandTest, HelpTest, desk_alone
 
 TESTS = pathlib.Path(__file__).parent
-STRIKE = b"\x04\0\0\0"
+STRIKE, LATCHED = b"\x04\0\0\0", "0400000200000000"
 SECONDS = 20  # for a line that is to come; far more than it takes
 A_MOMENT = 0.3  # for one that is not
 
@@ -113,7 +116,7 @@ class Answered(unittest.TestCase):
 
     def test_nothing_is_kept(self):
         for shown in (Plain(), Explained(Paper())):
-            program = StandsIn(lambda one: "0400000200000000")
+            program = StandsIn(lambda one: LATCHED)
             for text in answered(program, 300 * [STRIKE + STRIKE[:1], STRIKE[1:]], shown):
                 self.assertEqual(text.count("\n"), 1)
                 self.assertEqual(shown.lines, [])
@@ -136,13 +139,13 @@ class Answered(unittest.TestCase):
         self.assertEqual(shown_of([STRIKE], program=StandsIn(lambda one: "0600021001000000 odd")), "0600021001000000 odd\nend 0\n")
 
     def test_what_the_program_does_not_print(self):
-        for line in ("", "end 0", "0400", 16 * "G", 17 * "0", "0400000200000000 even", "0400000200000000 odd odd", "0400000200000000\r", 16 * "A"):
+        for line in ("", "end 0", "0400", 16 * "g", 16 * "A", 17 * "0", f"{LATCHED} even", f"{LATCHED} odd odd", f"{LATCHED}\r"):
             with self.subTest(line), self.assertRaisesRegex(CannotRun, "'serial' printed what it does not print"):
                 shown_of([STRIKE], program=StandsIn(lambda one, line=line: line))
-        for data, last in ((STRIKE, "end 3\n"), (STRIKE, "end 4\n"), (STRIKE, "end 0"), (STRIKE, ""), (STRIKE[1:], "end 0\n"), (STRIKE, "end 0\nend 0\n"),
-                           (STRIKE, "0400000200000000\nend 0\n")):
+        for data, last in ((STRIKE, "end 3\n"), (STRIKE, "end 4\n"), (STRIKE, "end 0"), (STRIKE, "\n"), (STRIKE[1:], "end 0\n"),
+                           (STRIKE, "end 0\nend 0\n"), (STRIKE, f"{LATCHED}\nend 0\n")):
             with self.subTest(last), self.assertRaisesRegex(CannotRun, "'serial' printed what it does not print"):
-                shown_of([data], program=StandsIn(end=last or " "))
+                shown_of([data], program=StandsIn(end=last))
 
     def test_a_port_that_fails_has_no_end(self):
         def pieces():
@@ -205,8 +208,9 @@ class Streams(unittest.TestCase):
 
     def test_what_is_no_stream(self):
         with tempfile.TemporaryDirectory() as folder:
-            for name, part in (("none", "none: there is no such file"), (".", "this is a folder"), ("x.batch", "x.batch | ./vorstelpijp serial -"),
-                               ("x.HEX", "bytes are read here"), ("x.calls", "bytes are read here")):
+            for name, part in (("none", "none: there is no such file"), (".", "this is a folder"),
+                               ("x.batch", "bytes FILE | ./vorstelpijp serial -"), ("x.HEX", "bytes are read here"),
+                               ("x.calls", "bytes are read here")):
                 path = os.path.join(folder, name)
                 if name.startswith("x"):
                     pathlib.Path(path).write_bytes(b"")
@@ -246,8 +250,9 @@ class Streams(unittest.TestCase):
             self.assertEqual(list(pieces), [])
 
     def test_a_read_that_fails(self):
-        with stream("/proc/self/mem") as pieces, self.assertRaisesRegex(CannotRun, "^/proc/self/mem: cannot be read any further: Input/output error$"):
-            next(pieces)
+        with stream("/proc/self/mem") as pieces:
+            with self.assertRaisesRegex(CannotRun, "^/proc/self/mem: cannot be read any further: Input/output error$"):
+                next(pieces)
 
 
 class Ports(unittest.TestCase):
@@ -270,28 +275,30 @@ class Ports(unittest.TestCase):
             piece = next(pieces)
         return piece, [call.args[0] for call in told.call_args_list]
 
-    def set_up(self, echo):
-        """Sets the port up raw."""
+    def set_up(self, flag):
+        """Sets the port up raw and without echo, but for one flag."""
         tty.setraw(self.terminal)
         modes = termios.tcgetattr(self.terminal)
-        modes[3] = modes[3] | termios.ECHO if echo else modes[3] & ~termios.ECHO
+        modes[3] |= flag
         termios.tcsetattr(self.terminal, termios.TCSANOW, modes)
 
     def test_a_port_that_is_set_up(self):
-        self.set_up(echo=False)
+        self.set_up(0)
         self.assertEqual(self.told_of(self.name), (STRIKE, [f"reading {self.name} as the bytes come; Ctrl-C ends it"]))
 
-    def test_a_port_that_is_not_set_up(self):
-        with mock.patch("desk.streams.tell") as told, stream(self.name):
-            pass
-        self.assertIn("not set up raw and without echo", told.call_args_list[0].args[0])
-        self.assertIn(f"'stty -F {self.name} 9600 raw -echo'", told.call_args_list[0].args[0])
-
     def test_a_port_that_sends_back(self):
-        self.set_up(echo=True)
+        self.set_up(termios.ECHO)
         piece, told = self.told_of(self.name)
         self.assertEqual((piece, len(told)), (STRIKE, 2))
         self.assertIn("sent back", told[0])
+
+    def test_a_port_that_is_not_raw(self):
+        self.set_up(termios.ICANON)
+        with mock.patch("desk.streams.tell") as told, stream(self.name):
+            pass
+        self.assertEqual(told.call_count, 2)
+        self.assertIn("not set up raw and without echo", told.call_args_list[0].args[0])
+        self.assertIn(f"'stty -F {self.name} 9600 raw -echo'", told.call_args_list[0].args[0])
 
     def test_a_file_is_no_port(self):
         with mock.patch("desk.streams.tell") as told, stream(__file__):
@@ -302,11 +309,17 @@ class Ports(unittest.TestCase):
 class ProgramTest(unittest.TestCase):
     """A base: the desk as it runs, with a program that stands in for the proved one."""
 
-    def start(self, *words, fault="none", listing=None, desk=TESTS / "desk_stand_in.py", path=os.environ["PATH"], **more):
-        """Starts it."""
+    def start(self, *words, fault="none", listing=None, closed=None, **more):
+        """Starts it, with one of its standard streams closed where that is said. It hears of Ctrl-C, as a job in the background may not."""
+        def prepare():
+            """What is done before it begins."""
+            signal.signal(signal.SIGINT, signal.SIG_DFL)
+            if closed is not None:
+                os.close(closed)
+
         stand_in = [sys.executable, "-I", "-S", str(TESTS / "line_stand_in.py"), fault, *([str(listing)] if listing else [])]
-        process = subprocess.Popen([sys.executable, desk, "serial", *words], stderr=subprocess.PIPE,
-                                   env={**os.environ, "PATH": path, "COLUMNS": "80", "STAND_IN": "\n".join(stand_in)},
+        process = subprocess.Popen([sys.executable, TESTS / "desk_stand_in.py", "serial", *words], stderr=subprocess.PIPE,
+                                   env={**os.environ, "STAND_IN": "\n".join(stand_in)}, preexec_fn=prepare,
                                    **{"stdin": subprocess.PIPE, "stdout": subprocess.PIPE, **more})
         self.addCleanup(self.clear, process)
         return process
@@ -390,6 +403,33 @@ class Prompt(ProgramTest):
         self.assertEqual(self.run_on(data, "--explain", "-", listing=listing), (0, text, ""))
 
 
+class Programs(unittest.TestCase):
+    """A program that is given its input part by part."""
+
+    def test_a_program_that_has_ended(self):
+        for words, part in ((["true"], "ended before its input did"), (["false"], "ended with status 1, saying: nothing"),
+                            (["sh", "-c", "echo no >&2"], "said on standard error: no")):
+            with self.subTest(words), fed("serial", words) as program:
+                program.process.wait(SECONDS)
+                program.give(STRIKE)
+                with self.assertRaisesRegex(CannotRun, f"^the program 'serial' .*{part}$"):
+                    program.line()
+
+    def test_a_line_that_is_not_whole(self):
+        with fed("serial", ["printf", "one\\ntwo"]) as program:
+            self.assertEqual(program.line(), "one\n")
+            with self.assertRaisesRegex(CannotRun, "ended before its input did"):
+                program.line()
+
+    def test_all_bytes_go_through(self):
+        data = 8 * "0123456789abcde\n"
+        with fed("serial", ["cat"]) as program:
+            for at in range(0, len(data), 5):
+                program.give(data[at:at + 5].encode())
+            self.assertEqual([program.line() for _ in range(3)], 3 * ["0123456789abcde\n"])
+            self.assertEqual(program.end(), 5 * "0123456789abcde\n")
+
+
 class Ends(ProgramTest):
     """How it ends where it does not come to the end of its input."""
 
@@ -408,11 +448,22 @@ class Ends(ProgramTest):
         process, number = self.begun()
         os.kill(number, 0)
         process.send_signal(signal.SIGINT)
-        self.assertEqual(self.ended(process), (130, "", "vorstelpijp: stopped; 1 record is answered, and 1 byte of another one had come: 09\n"))
+        self.assertEqual(self.ended(process),
+                         (130, "", "vorstelpijp: stopped; 1 record is answered, and 1 byte of another one had come: 09\n"))
+        self.assertGone(number)
+
+    def test_somebody_stops_what_would_not_end(self):
+        process, number = self.begun(fault="never ends")
+        process.stdin.close()
+        process.stdin = None
+        time.sleep(A_MOMENT)  # by then the desk waits for the program
+        process.send_signal(signal.SIGINT)
+        self.assertEqual(self.ended(process, None)[0], 130)
         self.assertGone(number)
 
     def test_somebody_stops_all_on_the_terminal(self):
         process, number = self.begun(start_new_session=True)
+        self.assertNotEqual(os.getpgid(number), process.pid)
         os.killpg(process.pid, signal.SIGINT)
         status, printed, said = self.ended(process)
         self.assertEqual((status, printed), (130, ""))
@@ -439,12 +490,12 @@ class Ends(ProgramTest):
             pathlib.Path(path).write_bytes(STRIKE)
             for words in (("-",), (path,)):
                 with self.subTest(words):
-                    status, _printed, said = self.run_on(STRIKE, *words, preexec_fn=lambda: os.close(1))
+                    status, _printed, said = self.run_on(STRIKE, *words, closed=1)
                     self.assertEqual(status, 1)
                     self.assertIn("standard output cannot be written", said)
 
     def test_an_input_that_is_closed(self):
-        process = self.start("-", preexec_fn=lambda: os.close(0))
+        process = self.start("-", closed=0)
         process.stdin.close()
         process.stdin = None
         self.assertEqual(self.ended(process, None), (2, "", "vorstelpijp: standard input: cannot be opened: Bad file descriptor\n"))
@@ -464,7 +515,8 @@ class Ends(ProgramTest):
             self.assertIn("this very file", said)
 
     def test_a_program_that_goes_wrong(self):
-        for fault, part in (("ends early", "the program 'serial' ended before its input did"), ("prints a word", "printed what it does not print"),
+        for fault, part in (("ends early", "the program 'serial' ended before its input did"),
+                            ("prints a word", "printed what it does not print"),
                             ("fails", "'serial' ended well, but said on standard error: standard output cannot be written"),
                             ("ends with 4", "printed what it does not print"), ("has a status", "'serial' ended with status 1")):
             with self.subTest(fault):
@@ -474,43 +526,40 @@ class Ends(ProgramTest):
                 self.assertTrue(said.startswith("vorstelpijp: ") and part in said and said.count("\n") == 1, said)
 
 
-class Command(ProgramTest):
+class Command(CommandTest, HelpTest):
     """The command itself."""
 
+    COMMAND = "serial"
+
     def test_a_wrong_input_is_told_before_anything_is_run(self):
-        for words, part in ((("/nowhere/at/all",), "there is no such file"), ((str(TOP),), "this is a folder")):
-            status, printed, said = self.run_on(b"", *words, desk=TOP / "vorstelpijp", path="/nowhere")
+        for name, part in (("/nowhere/at/all", "there is no such file"), (str(TOP), "this is a folder")):
+            status, printed, said = desk_alone("serial", name)
             self.assertEqual((status, printed), (2, ""))
             self.assertIn(part, said)
 
     def test_the_program_is_needed(self):
-        self.assertEqual(self.run_on(STRIKE, "-", desk=TOP / "vorstelpijp", path="/nowhere"),
-                         (1, "", "vorstelpijp: the command rt is not on the PATH\n"))
+        self.assertEqual(desk_alone("serial", "-", given=STRIKE), (1, "", "vorstelpijp: the command rt is not on the PATH\n"))
 
     def test_the_port_is_opened_when_the_program_is_there(self):
-        order = []
-        with mock.patch("desk.commands.serial.words_for", side_effect=lambda name: order.append(name) or ["none"]), \
-                mock.patch("desk.commands.serial.stream", side_effect=lambda name: order.append("open") or contextlib.nullcontext(iter([]))), \
-                mock.patch("desk.commands.serial.fed", side_effect=lambda name, words: order.append(words) or contextlib.nullcontext(StandsIn())), \
+        steps = mock.Mock()
+        steps.stream.return_value, steps.fed.return_value = contextlib.nullcontext(iter([])), contextlib.nullcontext(StandsIn())
+        with mock.patch.multiple("desk.commands.serial", words_for=steps.words_for, stream=steps.stream, fed=steps.fed), \
                 mock.patch("desk.main.put_out"), mock.patch("desk.streaming.tell"):
             self.assertEqual(main(["serial", __file__]), 0)
-        self.assertEqual(order, ["serial", "open", ["none"]])
+        self.assertEqual(steps.mock_calls, [mock.call.words_for("serial"), mock.call.stream(__file__),
+                                            mock.call.fed("serial", steps.words_for.return_value)])
 
     def test_the_help_is_one_page(self):
-        status, printed, said = self.run_on(b"", "--help")
-        self.assertEqual((status, said), (0, ""))
-        lines = printed.splitlines()
-        self.assertLessEqual(len(lines), 60)
-        self.assertEqual([line for line in lines if len(line) > 80], [])
-        for part in ("stty -F /dev/ttyUSB0 9600 raw -echo", "no limit of 4,096 bytes", "Nothing is written to the", "--explain", "Ctrl-C", "Exit status: 0"):
-            self.assertIn(part, printed)
-        self.assertEqual(serial.COMMAND.name, "serial")
+        self.assertOnePage("serial", "stty -F /dev/ttyUSB0 9600 raw -echo", "no limit of 4,096 bytes", "Nothing is written to the",
+                           "--explain", "Ctrl-C", "Exit status: 0")
+
+    def test_it_is_one_of_the_commands(self):
+        self.assertEqual([command.name for command in COMMANDS].count("serial"), 1)
+        self.assertIn("./vorstelpijp serial --help ", command_line().format_help())
 
     def test_a_wrong_command_line(self):
-        for words in (("serial",), ("serial", "a", "b"), ("serial", "--as", "hex", "a"), ("serial", "--plain", "a")):
-            with self.subTest(words), mock.patch("sys.stderr"), self.assertRaises(SystemExit) as caught:
-                main(list(words))
-            self.assertEqual(caught.exception.code, 2)
+        for words in ((), ("a", "b"), ("--as", "hex", "a"), ("--plain", "a")):
+            self.assertNoCommandLine(*words)
 
 
 if __name__ == "__main__":

@@ -1,14 +1,15 @@
--- What a caller of `accept` goes by: how far its numbers go, and where the answers stand in the output. Assumes nothing.
+-- What callers go by: how far the numbers of `accept` go, where its answers stand in the output, and that closing answers nothing. Assumes nothing.
 use Prim.Native.Nat.{ℕ, _*_, _≤_}
-use mathlib.Core.List.{List}
-use mathlib.Core.Path.{_≡_, ap, _∙_}
+use mathlib.Core.List.{List, []}
+use mathlib.Core.Path.{_≡_, refl, ap, _∙_}
 use native.Mathlib.Omega.{arith}
 use lib.ListN.{length, take, drop}
 use lib.Seq.{take-at}
+use Rattle.basics.proofs.Cases.{if-both}
 use Rattle.basics.proofs.Laying.{laid-front, length-laid}
 use Rattle.replay.specs.Run.{writtenOf}
 use Rattle.replay.proofs.Replaying.{length-written}
-use Rattle.line.specs.Line.{outcomeOf, acceptOf, acceptedOf}
+use Rattle.line.specs.Line.{Outcome, outcomeOf, closingOf, acceptOf, acceptedOf}
 use Rattle.line.specs.declared.calls.Line.{Line}
 use Rattle.line.specs.declared.calls.Called.{Called}
 use Rattle.line.proofs.Calling.{outcome-within}
@@ -31,3 +32,8 @@ module _ (l : Line) (cut out : List ℕ) where
       let answers = outcomeOf l cut (length out) .answers in
       rw (e, w, laid-front out (writtenOf answers))
       (take-at (writtenOf answers) (drop (length (writtenOf answers)) out) (8 * length answers) (length-written answers))
+
+-- closing takes and answers nothing
+pub closing-nothing : (l : Line) → (closingOf l .taken ≡ 0) × (closingOf l .answers ≡ [])
+unfolding closingOf
+closing-nothing l = if-both (λ (o : Outcome). (o .taken ≡ 0) × (o .answers ≡ [])) (l .closed) _ _ (λ yes. (refl, refl)) (λ no. (refl, refl))

@@ -1,5 +1,5 @@
 -- Laws of the text of `rooms`. Assumes nothing.
-use Prim.Native.Nat.{ℕ, _+_, _-_, _≤_}
+use Prim.Native.Nat.{ℕ, _+_, _-_, _*_, _≤_}
 use mathlib.Core.Path.{_≡_, refl, ap, _∙_}
 use mathlib.Core.List.{List}
 use native.Mathlib.Omega.{arith}
@@ -11,6 +11,7 @@ use Rattle.basics.specs.Lay.{laidAt, Writes}
 use Rattle.basics.specs.Bits.{wordOf}
 use Rattle.basics.proofs.Laying.{length-laid, then-writes}
 use Rattle.basics.proofs.Cases.{if-both}
+use Rattle.answer.specs.declared.Answer.{Answer}
 use Rattle.replay.specs.Run.{writtenOf, returnedOf}
 use Rattle.replay.specs.declared.run.Replayed.{Replayed}
 use Rattle.replay.proofs.Replaying.{length-written}
@@ -18,7 +19,7 @@ use Rattle.batch.specs.Fresh.{mostOutput, freshRunOf}
 use Rattle.batch.proofs.Ran.{answers-have-room}
 use Rattle.text.specs.Lines.{linesOf}
 use Rattle.text.proofs.Lining.{length-lines}
-use Rattle.rooms_text.specs.Rooms.{roomOf, countsOf, ranTextOf, shownOf, headBytes, roomTextOf}
+use Rattle.rooms_text.specs.Rooms.{roomOf, countsOf, givenTextOf, shownOf, headBytes, roomTextOf}
 use Rattle.rooms_text.specs.Lengths.{roomTextLength}
 
 -- the counts and then the whole output, of what a replay gave
@@ -26,7 +27,7 @@ pub shows : {t u s out′ told : List ℕ} {p q : ℕ} {r : Replayed} (batch out
     → out′ ≡ laidAt out 0 (writtenOf (freshRunOf batch (length out) .answers)) → told ≡ countsOf (r .ending) (r .taken) (r .answers)
     → Writes t u 0 p (linesOf told)
     → Writes u s p q (linesOf out′) → Writes t s 0 q (shownOf batch out)
-unfolding shownOf ranTextOf
+unfolding shownOf givenTextOf
 shows batch out returned output counts a b = then-writes (rw (counts, returned) at a) (rw output at b)
 
 -- the front of an array that holds one byte throughout
@@ -44,18 +45,24 @@ unfolding roomOf
 room-most hi lo =
     if-both (λ (n : ℕ). n ≤ mostOutput) (ltb mostOutput (wordOf hi lo)) mostOutput (wordOf hi lo) (λ yes. omega arith) (λ no. ltb-false mostOutput (wordOf hi lo) no)
 
-length-counts : (ending taken answers : ℕ) → length (countsOf ending taken answers) ≡ 8
+pub length-counts : (ending taken answers : ℕ) → length (countsOf ending taken answers) ≡ 8
 unfolding countsOf
 length-counts ending taken answers = refl
 
+pub given-has-room : (ending taken : ℕ) (answers : List Answer) (out : List ℕ) → 8 * length answers ≤ length out → length out ≤ mostOutput
+    → length (givenTextOf ending taken answers out) ≤ roomTextLength
+unfolding givenTextOf
+given-has-room ending taken answers out room h =
+    let told = countsOf ending taken (length answers) in
+    let left = laidAt out 0 (writtenOf answers) in
+    let same : length left ≡ length out = length-laid out 0 (writtenOf answers) (omega (arith, length-written answers)) in
+    simp length-append (omega (arith, length-lines told, length-lines left, length-counts ending taken (length answers)))
+
 shown-has-room : (batch out : List ℕ) → length out ≤ mostOutput → length (shownOf batch out) ≤ roomTextLength
-unfolding shownOf ranTextOf
+unfolding shownOf
 shown-has-room batch out h =
     let run = freshRunOf batch (length out) in
-    let told = countsOf (run .ending) (run .taken) (length (run .answers)) in
-    let left = laidAt out 0 (writtenOf (run .answers)) in
-    let same : length left ≡ length out = length-laid out 0 (writtenOf (run .answers)) (omega (arith, length-written (run .answers), answers-have-room batch (length out))) in
-    simp length-append (omega (arith, length-lines told, length-lines left, length-counts (run .ending) (run .taken) (length (run .answers))))
+    given-has-room (run .ending) (run .taken) (run .answers) out (answers-have-room batch (length out)) h
 
 -- every text has room
 pub room-text-has-room : (input : List ℕ) → length (roomTextOf input) ≤ roomTextLength

@@ -7,6 +7,7 @@ use lib.ListN.{length, getD, drop, replicate}
 use Rattle.basics.specs.Bits.{wordOf, highOf, lowOf}
 use Rattle.basics.specs.Choice.{if_then_else_}
 use Rattle.basics.specs.Lay.{laidAt}
+use Rattle.answer.specs.declared.Answer.{Answer}
 use Rattle.replay.specs.Run.{Run, writtenOf}
 use Rattle.batch.specs.Fresh.{mostBytes, mostOutput, freshRunOf}
 use Rattle.text.specs.Lines.{linesOf}
@@ -21,10 +22,14 @@ unfoldable pub countsOf : ℕ → ℕ → ℕ → List ℕ
 countsOf ending taken answers =
     ending ∷ highOf taken ∷ lowOf taken ∷ highOf answers ∷ lowOf answers ∷ 0 ∷ 0 ∷ 0 ∷ []
 
--- the counts on a line, and then the whole output as the run left it
-unfoldable pub ranTextOf : Run → List ℕ → List ℕ
-ranTextOf r out =
-    linesOf (countsOf (r .ending) (r .taken) (length (r .answers))) ++ linesOf (laidAt out 0 (writtenOf (r .answers)))
+-- the counts on a line, and then the whole output with the answers at its front
+unfoldable pub givenTextOf : ℕ → ℕ → List Answer → List ℕ → List ℕ
+givenTextOf ending taken answers out =
+    linesOf (countsOf ending taken (length answers)) ++ linesOf (laidAt out 0 (writtenOf answers))
+
+-- the same of a run
+abbrev pub ranTextOf : Run → List ℕ → List ℕ
+ranTextOf r out = givenTextOf (r .ending) (r .taken) (r .answers) out
 
 -- a batch on fresh chips, into an output
 unfoldable pub shownOf : List ℕ → List ℕ → List ℕ

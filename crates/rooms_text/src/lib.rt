@@ -3,4 +3,6 @@ mod rooms;
 
 pub use rooms::INPUT;
 pub use rooms::TEXT;
+pub use rooms::counts;
 pub use rooms::room;
+pub use rooms::room_of;

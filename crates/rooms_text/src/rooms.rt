@@ -27,9 +27,9 @@ pub const INPUT: usize = HEAD + batch::MOST;
 pub const TEXT: usize = LINE * (1 + OUTPUT / PER_LINE);
 
 // The room that two bytes ask for, at most that of the longest output.
-fn room_of(hi: u8, lo: u8) -> usize
-    ensures { λ r. ⌜ r ≡ roomOf hi lo ⌝ }
-    ensures { λ r. ⌜ r ≤ mostOutput ⌝ }
+pub fn room_of(hi: u8, lo: u8) -> usize
+    ensures is { λ r. ⌜ r ≡ roomOf hi lo ⌝ }
+    ensures most { λ r. ⌜ r ≤ mostOutput ⌝ }
 {
     let asked = word(hi, lo) as usize;
     if OUTPUT < asked {
@@ -39,7 +39,7 @@ fn room_of(hi: u8, lo: u8) -> usize
 }
 
 // The counts of a replay as eight bytes.
-fn counts(ending: u8, taken: u16, answers: u16) -> [u8; 8]
+pub fn counts(ending: u8, taken: u16, answers: u16) -> [u8; 8]
     ensures { λ r. ⌜ r ≡ countsOf ending taken answers ⌝ }
 {
     [

@@ -1,0 +1,4 @@
+pub mod Asked
+pub mod Made
+pub mod Whole
+pub mod private
