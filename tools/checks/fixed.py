@@ -4,6 +4,7 @@ Nothing else notices when one of these comes to say less: the laws' and the prom
 has no contract. So each is held to its words here, comments and white space apart, and is changed here and there together.
 """
 from checks import antt, source
+from checks.loops import CUTS, SERIAL
 
 FORMS = """use mathlib.Core.Path.{_≡_}
 
@@ -75,8 +76,14 @@ def program_of(crate, function):
     return LISTING.replace("lister::list(", f"lister::{function}(").replace("lister::", f"{crate}::")
 
 
-# The programs whose own code decides nothing.
-PROGRAMS = {"listing": LISTING, "rooms": program_of("rooms_text", "room"), "counts": program_of("report_text", "tell")}
+# The programs whose own code decides nothing, and those that decide only how long to go on.
+PROGRAMS = {
+    "listing": LISTING,
+    "rooms": program_of("rooms_text", "room"),
+    "counts": program_of("report_text", "tell"),
+    "serial": SERIAL,
+    "cuts": CUTS,
+}
 
 
 def definitions_fault(text, due):

@@ -100,9 +100,19 @@ use Rattle.bench.proofs.step.Bench.step.Reads as bench·step
 use Rattle.replay.proofs.unread_rest.Reads as replay·unread-rest
 use Rattle.replay.proofs.replay.Reads as replay·replay
 use Rattle.batch.proofs.replay_fresh.Reads as batch·replay-fresh
+use Rattle.answer_lines.proofs.put_answers.Reads as answer-lines·put-answers
 use Rattle.lister.proofs.list.Reads as lister·list
+use Rattle.rooms_text.proofs.room_of.Reads as rooms-text·room-of
+use Rattle.rooms_text.proofs.counts.Reads as rooms-text·counts
 use Rattle.rooms_text.proofs.room.Reads as rooms-text·room
 use Rattle.report_text.proofs.tell.Reads as report-text·tell
+use Rattle.line.proofs.calls.Line.fresh.Reads as line·fresh
+use Rattle.line.proofs.calls.Line.accept.Reads as line·accept
+use Rattle.line.proofs.calls.Line.close.Reads as line·close
+use Rattle.serial_text.proofs.tell_end.Reads as serial-text·tell-end
+use Rattle.serial_text.proofs.tell.Reads as serial-text·tell
+use Rattle.cuts_text.proofs.is_list.Reads as cuts-text·is-list
+use Rattle.cuts_text.proofs.make.Reads as cuts-text·make
 use Rattle.exports.proofs.controller_fresh.Reads as exports·controller-fresh
 use Rattle.exports.proofs.controller_reset.Reads as exports·controller-reset
 use Rattle.exports.proofs.controller_write.Reads as exports·controller-write
@@ -400,14 +410,44 @@ replay-replay κs a x y s t p q = one-answer (p .0) (q .0) and one-answer (p .1 
 pub batch-replay-fresh : OneAnswer batch·replay-fresh.Post (λ κs r s. r beside now (s .1 .0) beside now (s .0))
 batch-replay-fresh κs a x y s t p q = one-answer (p .0) (q .0) and one-answer (p .1 .0) (q .1 .0) and one-answer (p .1 .1 .0) (q .1 .1 .0)
 
+pub answer-lines-put-answers : OneAnswer answer-lines·put-answers.Post (λ κs r s. r beside now (s .0) beside now (s .1 .1 .0))
+answer-lines-put-answers κs a x y s t p q = one-answer (p .0) (q .0) and one-answer (p .1 .0) (q .1 .0) and one-answer (p .1 .1 .0) (q .1 .1 .0)
+
 pub lister-list : OneAnswer lister·list.Post (λ κs r s. r beside now (s .1 .0) beside now (s .0))
 lister-list κs a x y s t p q = one-answer (p .1 .0) (q .1 .0) and one-answer (p .1 .1 .0) (q .1 .1 .0) and one-answer (p .1 .1 .1 .1) (q .1 .1 .1 .1)
+
+pub rooms-text-room-of : OneAnswer rooms-text·room-of.Post (λ κs r s. r)
+rooms-text-room-of κs a x y s t p q = one-answer (p .0) (q .0)
+
+pub rooms-text-counts : OneAnswer rooms-text·counts.Post (λ κs r s. r)
+rooms-text-counts κs a x y s t p q = one-answer p q
 
 pub rooms-text-room : OneAnswer rooms-text·room.Post (λ κs r s. r beside now (s .1 .0) beside now (s .0))
 rooms-text-room κs a x y s t p q = one-answer (p .1 .0) (q .1 .0) and one-answer (p .1 .1 .0) (q .1 .1 .0) and one-answer (p .1 .1 .1 .1) (q .1 .1 .1 .1)
 
 pub report-text-tell : OneAnswer report-text·tell.Post (λ κs r s. r beside now (s .1 .0) beside now (s .0))
 report-text-tell κs a x y s t p q = one-answer (p .1 .0) (q .1 .0) and one-answer (p .1 .1 .0) (q .1 .1 .0) and one-answer (p .1 .1 .1 .1) (q .1 .1 .1 .1)
+
+pub line-fresh : OneAnswer line·fresh.Post (λ κs r s. r)
+line-fresh κs a x y s t p q = one-answer p q
+
+pub line-accept : OneAnswer line·accept.Post (λ κs r s. r beside now (s .1 .1 .0) beside now (s .1 .0))
+line-accept κs a x y s t p q = one-answer (p .0) (q .0) and one-answer (p .1 .0) (q .1 .0) and one-answer (p .1 .1) (q .1 .1)
+
+pub line-close : OneAnswer line·close.Post (λ κs r s. r)
+line-close κs a x y s t p q = one-answer p q
+
+pub serial-text-tell-end : OneAnswer serial-text·tell-end.Post (λ κs r s. r beside now (s .1 .0))
+serial-text-tell-end κs a x y s t p q = one-answer (p .1 .0) (q .1 .0) and one-answer (p .1 .1 .0) (q .1 .1 .0)
+
+pub serial-text-tell : OneAnswer serial-text·tell.Post (λ κs r s. r beside now (s .1 .1 .0) beside now (s .1 .0))
+serial-text-tell κs a x y s t p q = one-answer (p .1 .0) (q .1 .0) and one-answer (p .1 .1 .0) (q .1 .1 .0) and one-answer (p .1 .1 .1 .1) (q .1 .1 .1 .1)
+
+pub cuts-text-is-list : OneAnswer cuts-text·is-list.Post (λ κs r s. r beside now (s .0))
+cuts-text-is-list κs a x y s t p q = one-answer (p .0) (q .0) and one-answer (p .1) (q .1)
+
+pub cuts-text-make : OneAnswer cuts-text·make.Post (λ κs r s. r beside now (s .1 .1 .0) beside now (s .1 .0))
+cuts-text-make κs a x y s t p q = one-answer (p .1 .0) (q .1 .0) and one-answer (p .1 .1 .0) (q .1 .1 .0) and one-answer (p .1 .1 .1 .1 .0) (q .1 .1 .1 .1 .0)
 
 pub exports-controller-fresh : OneAnswer exports·controller-fresh.Post (λ κs r s. r)
 exports-controller-fresh κs a x y s t p q = one-answer p q
