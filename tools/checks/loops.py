@@ -6,6 +6,7 @@ SERIAL = r"""use libc::STDERR_FILENO;
 use libc::STDIN_FILENO;
 use libc::STDOUT_FILENO;
 use line::Line;
+use serial_text::space;
 use serial_text::tell;
 use serial_text::tell_end;
 use text::said;
@@ -17,7 +18,7 @@ struct Turn {
 }
 
 fn one_turn(before: Line) -> Turn {
-    let mut cut = [0u8; serial_text::CUT];
+    let mut cut = space();
     let got = libc::read(STDIN_FILENO, &mut cut);
     let n = io::count(got, &cut);
     let mut text = [0u8; serial_text::TEXT];
@@ -66,6 +67,7 @@ CUTS = r"""ghost use Prim.Native.Nat.{_≤_};
 ghost use lib.ListN.{length};
 use cuts_text::is_list;
 use cuts_text::make;
+use cuts_text::refusal;
 use libc::STDERR_FILENO;
 use libc::STDIN_FILENO;
 use libc::STDOUT_FILENO;
@@ -112,14 +114,15 @@ fn all_calls(list: &[u8]) -> bool {
 }
 
 fn main() {
-    let mut none = [0u8; 1];
-    let readable = libc::read(STDIN_FILENO, &mut none[..0]) >= 0;
+    let mut nothing = [0u8; 1];
+    let readable = libc::read(STDIN_FILENO, &mut nothing[..0]) >= 0;
     let mut space = [0u8; cuts_text::INPUT + 1];
     let n = io::read_full(STDIN_FILENO, &mut space);
     let input: &[u8] = &space[..n];
     let listed = is_list(input);
-    let refusal: &[u8] = b"no call\n";
-    let refused = io::write_all(STDOUT_FILENO, &refusal[..said(readable & !listed, refusal)]);
+    let words = refusal();
+    let none: &[u8] = &words;
+    let refused = io::write_all(STDOUT_FILENO, &none[..said(readable & !listed, none)]);
     let shown = all_calls(&input[..said(readable & listed, input)]);
     let unread: &[u8] = b"standard input cannot be read\n";
     io::write_all(STDERR_FILENO, &unread[..said(!readable, unread)]);

@@ -9,7 +9,7 @@ from desk.reading import NotWords, read_line
 # languages, commands and what they print.
 KNOWN = {
     "lo", "hi", "data", "kind",
-    "too long", "end", " odd", "no room",
+    "too long", "end", " odd", "no room", "no call",
     "let else", "let .. else", "#[repr(C)]", 'extern "C"', "requires", "ensures", "main", "read", "write",
     "rt", "cargo", "rt check NAME", "rt ci", "rt fmt", "rt dev NAME", "rt dev NAME --generated DIR", "N passed, 0 failed",
     "abbrev", "unfoldable", "unfolding", "let", "let mut", "match", "&", "&&", "eqb", "Statement", "Tie",

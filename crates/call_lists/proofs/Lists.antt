@@ -16,13 +16,13 @@ use Rattle.batch.specs.Fresh.{mostBytes}
 use Rattle.line.specs.Line.{freshLine, outcomeOf}
 use Rattle.line.specs.declared.calls.Line.{Line}
 use Rattle.rooms_text.specs.Rooms.{roomOf}
-use Rattle.cuts_text.specs.Asked.{headBytes, cutLength, cutOf, firstOf, lengthOf, listIn, isListOf}
-use Rattle.cuts_text.specs.Made.{cutTextOf, textOf, lineOf, callTextOf, madeOf}
+use Rattle.cuts_text.specs.Asked.{callHead, cutLength, cutOf, firstOf, lengthOf, listIn, isListOf}
+use Rattle.cuts_text.specs.Made.{cutTextOf, textShown, lineLeft, callTextOf, madeOf}
 use Rattle.cuts_text.specs.Whole.{callsTextIn, noCall, cutsTextOf}
 use Rattle.cuts_text.specs.declared.asked.Asked.{Asked}
 use Rattle.cuts_text.specs.declared.asked.Asked.the-variants.{Nothing, Close, Cut}
 use Rattle.cuts_text.proofs.Listing.{list-none, list-ends, list-goes, cut-whole}
-use Rattle.call_lists.specs.Lists.{Handed, Ask, hand, shut, saidOf, listOf, roomIn, lineAfter, textAfter, textsOf, Shows}
+use Rattle.call_lists.specs.Lists.{Handed, Ask, hand, shut, bytesIn, listOf, roomIn, lineAfter, textAfter, textsOf, Shows}
 
 -- the call as it is read
 abbrev askedOf : Ask → Asked
@@ -42,39 +42,39 @@ first-other : (x : ℕ) (rest : List ℕ) → (x ≡ 2 → ⊥) → (x ≡ 1 →
 unfolding firstOf if_then_else_
 first-other x rest n m = rw (ne-eqb (length (x ∷ rest)) 0 (λ e. omega (arith, e)), ne-eqb x 2 n, ne-eqb x 1 m)
 
-cut-short : (rest : List ℕ) → length rest < headBytes → cutOf rest ≡ Nothing
+cut-short : (rest : List ℕ) → length rest < callHead → cutOf rest ≡ Nothing
 unfolding cutOf if_then_else_
-cut-short rest h = rw (lt-ltb (length rest) headBytes h)
+cut-short rest h = rw (lt-ltb (length rest) callHead h)
 
-cut-lacks : (rest : List ℕ) → length rest - headBytes < cutLength rest → headBytes ≤ length rest → cutOf rest ≡ Nothing
+cut-lacks : (rest : List ℕ) → length rest - callHead < cutLength rest → callHead ≤ length rest → cutOf rest ≡ Nothing
 unfolding cutOf if_then_else_
-cut-lacks rest h g = rw (le-ltb (length rest) headBytes g, lt-ltb (length rest - headBytes) (cutLength rest) h)
+cut-lacks rest h g = rw (le-ltb (length rest) callHead g, lt-ltb (length rest - callHead) (cutLength rest) h)
 
-first-said : (a : Ask) (rest : List ℕ) → firstOf (saidOf a ++ rest) ≡ askedOf a
+first-said : (a : Ask) (rest : List ℕ) → firstOf (bytesIn a ++ rest) ≡ askedOf a
 first-said shut rest = first-close rest
 first-said (hand h) rest =
-    let all = saidOf (hand h) ++ rest in
-    let long : length all ≡ headBytes + (length (h .bytes) + length rest) = simp length-append (omega arith) in
+    let all = bytesIn (hand h) ++ rest in
+    let long : length all ≡ callHead + (length (h .bytes) + length rest) = simp length-append (omega arith) in
     first-cut _ ∙ sym (cut-whole all (roomIn h) (wordOf (h .long-high) (h .long-low)) refl refl (omega arith) (omega (arith, h .long)))
 
-said-length : (a : Ask) → lengthOf (askedOf a) ≡ length (saidOf a)
+said-length : (a : Ask) → lengthOf (askedOf a) ≡ length (bytesIn a)
 said-length shut = refl
 said-length (hand h) = rw (h .long) (omega arith)
 
-said-some : (a : Ask) → 1 ≤ length (saidOf a)
+said-some : (a : Ask) → 1 ≤ length (bytesIn a)
 said-some shut = omega arith
 said-some (hand h) = omega arith
 
 -- a call of a list, made
 module _ (a : Ask) (rest : List ℕ) where
   abbrev all : List ℕ
-  all = saidOf a ++ rest
+  all = bytesIn a ++ rest
 
-  used : lengthOf (firstOf all) ≡ length (saidOf a)
+  used : lengthOf (firstOf all) ≡ length (bytesIn a)
   used = ap lengthOf (first-said a rest) ∙ said-length a
 
   past : drop (lengthOf (firstOf all)) all ≡ rest
-  past = rw used (drop-at (saidOf a) rest (length (saidOf a)) refl)
+  past = rw used (drop-at (bytesIn a) rest (length (bytesIn a)) refl)
 
   some : lengthOf (firstOf all) ≡ 0 → ⊥
   some e = let one = said-some a in absurd (omega (arith, used, e))
@@ -83,21 +83,21 @@ module _ (a : Ask) (rest : List ℕ) where
 cut-said : (h : Handed) (rest : List ℕ) → take (wordOf (h .long-high) (h .long-low)) (h .bytes ++ rest) ≡ h .bytes
 cut-said h rest = rw (h .long) (take-at (h .bytes) rest (length (h .bytes)) refl)
 
-text-said : (l : Line) (a : Ask) (rest : List ℕ) → textOf l (saidOf a ++ rest) (askedOf a) ≡ textAfter l a
+text-said : (l : Line) (a : Ask) (rest : List ℕ) → textShown l (bytesIn a ++ rest) (askedOf a) ≡ textAfter l a
 text-said l shut rest = refl
 text-said l (hand h) rest = ap (λ (b : List ℕ). cutTextOf l b (replicate (roomIn h) 0xA5)) (cut-said h rest)
 
-line-said : (l : Line) (a : Ask) (rest : List ℕ) → lineOf l (saidOf a ++ rest) (askedOf a) ≡ lineAfter l a
+line-said : (l : Line) (a : Ask) (rest : List ℕ) → lineLeft l (bytesIn a ++ rest) (askedOf a) ≡ lineAfter l a
 line-said l shut rest = refl
 line-said l (hand h) rest = ap (λ (b : List ℕ). outcomeOf l b (roomIn h) .line) (cut-said h rest)
 
-call-text : (l : Line) (a : Ask) (rest : List ℕ) → callTextOf l (saidOf a ++ rest) ≡ textAfter l a
+call-text : (l : Line) (a : Ask) (rest : List ℕ) → callTextOf l (bytesIn a ++ rest) ≡ textAfter l a
 unfolding callTextOf
-call-text l a rest = ap (textOf l (saidOf a ++ rest)) (first-said a rest) ∙ text-said l a rest
+call-text l a rest = ap (textShown l (bytesIn a ++ rest)) (first-said a rest) ∙ text-said l a rest
 
-made-line : (l : Line) (a : Ask) (rest : List ℕ) → madeOf l (saidOf a ++ rest) .line ≡ lineAfter l a
+made-line : (l : Line) (a : Ask) (rest : List ℕ) → madeOf l (bytesIn a ++ rest) .line ≡ lineAfter l a
 unfolding madeOf
-made-line l a rest = ap (lineOf l (saidOf a ++ rest)) (first-said a rest) ∙ line-said l a rest
+made-line l a rest = ap (lineLeft l (bytesIn a ++ rest)) (first-said a rest) ∙ line-said l a rest
 
 made-used : (l : Line) (rest : List ℕ) → madeOf l rest .used ≡ lengthOf (firstOf rest)
 unfolding madeOf
@@ -109,9 +109,9 @@ unfolding listOf
 list-said k [] h = list-none k [] refl
 list-said k (a ∷ asks) h =
     let rest = listOf asks in
-    let long : length (saidOf a ++ rest) ≡ length (saidOf a) + length rest = length-append (saidOf a) rest in
+    let long : length (bytesIn a ++ rest) ≡ length (bytesIn a) + length rest = length-append (bytesIn a) rest in
     let one = said-some a in
-    list-goes k (saidOf a ++ rest) (λ e. omega arith) (λ e. omega arith) (some a rest)
+    list-goes k (bytesIn a ++ rest) (λ e. omega arith) (λ e. omega arith) (some a rest)
     ∙ ap (listIn (k - 1)) (past a rest)
     ∙ list-said (k - 1) asks (omega arith)
 
@@ -135,15 +135,15 @@ unfolding listOf textsOf
 texts-said k l [] h = texts-none k l
 texts-said k l (a ∷ asks) h =
     let rest = listOf asks in
-    let long : length (saidOf a ++ rest) ≡ length (saidOf a) + length rest = length-append (saidOf a) rest in
+    let long : length (bytesIn a ++ rest) ≡ length (bytesIn a) + length rest = length-append (bytesIn a) rest in
     let one = said-some a in
-    texts-goes k l (saidOf a ++ rest) (λ e. omega arith) (some a rest)
+    texts-goes k l (bytesIn a ++ rest) (λ e. omega arith) (some a rest)
     ∙ rw (call-text l a rest, made-line l a rest, past a rest) (ap (λ (w : List ℕ). textAfter l a ++ w) (texts-said (k - 1) (lineAfter l a) asks (omega arith)))
 
 -- what bytes begin with: a call and then the rest, or none
 data Begins (rest : List ℕ) : Type 0 where
   nothing : lengthOf (firstOf rest) ≡ 0 → Begins rest
-  call : (a : Ask) (more : List ℕ) → rest ≡ saidOf a ++ more → Begins rest
+  call : (a : Ask) (more : List ℕ) → rest ≡ bytesIn a ++ more → Begins rest
 
 begins-cut : (rest : List ℕ) → Begins (1 ∷ rest)
 begins-cut [] = nothing (ap lengthOf (first-cut [] ∙ cut-short (1 ∷ []) (omega arith)))
@@ -184,13 +184,13 @@ written-call k rest (nothing z) h e further =
     absurd (false≢true (sym (list-ends (suc k) rest (λ q. omega arith) (λ q. omega (arith, q)) z) ∙ e))
 written-call k rest (call a more q) h e further =
     let one = said-some a in
-    let here : listIn (suc k) (saidOf a ++ more) ≡ true = rw q at e in
-    let long : length (saidOf a ++ more) ≡ length (saidOf a) + length more = length-append (saidOf a) more in
-    let goes = list-goes (suc k) (saidOf a ++ more) (λ z. omega arith) (λ z. omega (arith, z)) (some a more) in
+    let here : listIn (suc k) (bytesIn a ++ more) ≡ true = rw q at e in
+    let long : length (bytesIn a ++ more) ≡ length (bytesIn a) + length more = length-append (bytesIn a) more in
+    let goes = list-goes (suc k) (bytesIn a ++ more) (λ z. omega arith) (λ z. omega (arith, z)) (some a more) in
     let less : suc k - 1 ≡ k = omega arith in
     let rest-is : listIn k more ≡ true = rw (less, past a more) at (sym goes ∙ here) in
     let w = further more rest-is in
-    (a ∷ w .0, q ∙ ap (λ (l : List ℕ). saidOf a ++ l) (w .1))
+    (a ∷ w .0, q ∙ ap (λ (l : List ℕ). bytesIn a ++ l) (w .1))
 
 written-none : (rest : List ℕ) → listIn 0 rest ≡ true → Written rest
 unfolding listIn listOf

@@ -27,14 +27,14 @@ pub data Ask : Type 0 where
   shut : Ask
 
 -- its bytes in a list
-abbrev pub saidOf : Ask → List ℕ
-saidOf (hand h) = 1 ∷ h .room-high ∷ h .room-low ∷ h .long-high ∷ h .long-low ∷ h .bytes
-saidOf shut = 2 ∷ []
+abbrev pub bytesIn : Ask → List ℕ
+bytesIn (hand h) = 1 ∷ h .room-high ∷ h .room-low ∷ h .long-high ∷ h .long-low ∷ h .bytes
+bytesIn shut = 2 ∷ []
 
 -- a list of calls, in their order
 unfoldable pub listOf : List Ask → List ℕ
 listOf [] = []
-listOf (a ∷ asks) = saidOf a ++ listOf asks
+listOf (a ∷ asks) = bytesIn a ++ listOf asks
 
 -- the room of a cut
 abbrev pub roomIn : Handed → ℕ

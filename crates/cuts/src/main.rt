@@ -4,6 +4,7 @@ ghost use Prim.Native.Nat.{_≤_};
 ghost use lib.ListN.{length};
 use cuts_text::is_list;
 use cuts_text::make;
+use cuts_text::refusal;
 use libc::STDERR_FILENO;
 use libc::STDIN_FILENO;
 use libc::STDOUT_FILENO;
@@ -54,14 +55,15 @@ fn all_calls(list: &[u8]) -> bool {
 
 fn main() {
     // A read of no bytes tells whether there is an input at all: read_full would take a failure for its end.
-    let mut none = [0u8; 1];
-    let readable = libc::read(STDIN_FILENO, &mut none[..0]) >= 0;
+    let mut nothing = [0u8; 1];
+    let readable = libc::read(STDIN_FILENO, &mut nothing[..0]) >= 0;
     let mut space = [0u8; cuts_text::INPUT + 1];
     let n = io::read_full(STDIN_FILENO, &mut space);
     let input: &[u8] = &space[..n];
     let listed = is_list(input);
-    let refusal: &[u8] = b"no call\n";
-    let refused = io::write_all(STDOUT_FILENO, &refusal[..said(readable & !listed, refusal)]);
+    let words = refusal();
+    let none: &[u8] = &words;
+    let refused = io::write_all(STDOUT_FILENO, &none[..said(readable & !listed, none)]);
     let shown = all_calls(&input[..said(readable & listed, input)]);
     let unread: &[u8] = b"standard input cannot be read\n";
     io::write_all(STDERR_FILENO, &unread[..said(!readable, unread)]);

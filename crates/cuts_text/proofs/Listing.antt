@@ -10,7 +10,7 @@ use borrow.Author.Tests.{eq-eqb, ne-eqb, eqb-false, le-ltb, ltb-false}
 use Rattle.basics.proofs.Cases.{if-both}
 use Rattle.basics.specs.Choice.{if_then_else_}
 use Rattle.rooms_text.specs.Rooms.{roomOf}
-use Rattle.cuts_text.specs.Asked.{headBytes, cutLength, cutOf, firstOf, lengthOf, listIn}
+use Rattle.cuts_text.specs.Asked.{callHead, cutLength, cutOf, firstOf, lengthOf, listIn}
 use Rattle.cuts_text.specs.declared.asked.Asked.{Asked}
 use Rattle.cuts_text.specs.declared.asked.Asked.the-variants.{Cut}
 
@@ -42,10 +42,10 @@ module _ (k : ℕ) (rest : List ℕ) (some : length rest ≡ 0 → ⊥) (left : 
 
 -- a cut that is whole
 pub cut-whole : (rest : List ℕ) (room long : ℕ) → room ≡ roomOf (getD rest 1 0) (getD rest 2 0) → long ≡ cutLength rest
-    → headBytes ≤ length rest → long ≤ length rest - headBytes → Cut room long ≡ cutOf rest
+    → callHead ≤ length rest → long ≤ length rest - callHead → Cut room long ≡ cutOf rest
 unfolding cutOf if_then_else_
 cut-whole rest room long r e head h =
-    rw (le-ltb (length rest) headBytes head, le-ltb (length rest - headBytes) (cutLength rest) (rw e at h)) (rw (r, e))
+    rw (le-ltb (length rest) callHead head, le-ltb (length rest - callHead) (cutLength rest) (rw e at h)) (rw (r, e))
 
 -- a call is said by no more bytes than there are
 pub first-within : (rest : List ℕ) → lengthOf (firstOf rest) ≤ length rest
@@ -53,9 +53,9 @@ unfolding firstOf cutOf
 first-within rest =
     let P : Asked → Type 0 = λ a. lengthOf a ≤ length rest in
     let whole : P (cutOf rest) =
-    if-both P (ltb (length rest) headBytes) _ _ (λ short. omega arith)
-    (λ head. if-both P (ltb (length rest - headBytes) (cutLength rest)) _ _ (λ short. omega arith)
-    (λ all. omega (arith, ltb-false (length rest) headBytes head, ltb-false (length rest - headBytes) (cutLength rest) all))) in
+    if-both P (ltb (length rest) callHead) _ _ (λ short. omega arith)
+    (λ head. if-both P (ltb (length rest - callHead) (cutLength rest)) _ _ (λ short. omega arith)
+    (λ all. omega (arith, ltb-false (length rest) callHead head, ltb-false (length rest - callHead) (cutLength rest) all))) in
     if-both P (eqb (length rest) 0) _ _ (λ none. omega arith)
     (λ some. if-both P (eqb (getD rest 0 0) 2) _ _ (λ close. let n = eqb-false (length rest) 0 some in omega (arith, n))
     (λ no. if-both P (eqb (getD rest 0 0) 1) _ _ (λ cut. whole) (λ no. omega arith)))

@@ -19,8 +19,8 @@ use Rattle.text.specs.Lines.{linesOf}
 use Rattle.text.specs.Speech.{Counts}
 use Rattle.text.proofs.Lining.{length-lines}
 use Rattle.text.proofs.Whole.{whole-text}
-use Rattle.cuts_text.specs.Asked.{headBytes, firstOf, lengthOf}
-use Rattle.cuts_text.specs.Made.{closeTextOf, cutTextOf, textOf, lineOf, callTextOf, madeOf, callTextLength}
+use Rattle.cuts_text.specs.Asked.{callHead, firstOf, lengthOf}
+use Rattle.cuts_text.specs.Made.{closeTextOf, cutTextOf, textShown, lineLeft, callTextOf, madeOf, callTextLength}
 use Rattle.cuts_text.specs.private.Within.{Shown}
 use Rattle.cuts_text.proofs.Listing.{first-within}
 use Rattle.cuts_text.specs.declared.asked.Asked.{Asked}
@@ -42,7 +42,7 @@ closes l {r} {told} {t} {u} {q} room e counts w =
 pub accepts : (l : Line) (cut out : List ℕ) {r : Called} {out′ told t u s : List ℕ} {p q : ℕ} → callTextLength ≤ length t → length out ≤ mostOutput
     → r ≡ acceptOf l cut out → out′ ≡ acceptedOf l cut out → told ≡ countsOf (r .ending) (r .taken) (r .answers)
     → Writes t u 0 p (linesOf told) → Writes u s p q (linesOf out′)
-    → Shown t s (record { line = r .line; used = headBytes + length cut; long = q }) (outcomeOf l cut (length out) .line) (headBytes + length cut) (cutTextOf l cut out)
+    → Shown t s (record { line = r .line; used = callHead + length cut; long = q }) (outcomeOf l cut (length out) .line) (callHead + length cut) (cutTextOf l cut out)
 unfolding acceptOf acceptedOf cutTextOf givenTextOf
 accepts l cut out {r} {out′} {told} {t} {u} {s} {p} {q} room most e w counts a b =
     let o = outcomeOf l cut (length out) in
@@ -52,9 +52,9 @@ accepts l cut out {r} {out′} {told} {t} {u} {s} {p} {q} room most e w counts a
 -- The call that bytes begin with, by what it is: none, a closing, or a cut whose bytes are lent.
 module _ (l : Line) (rest t : List ℕ) where
   abbrev ShownFirst : List ℕ → Made → Type 0
-  ShownFirst u r = Shown t u r (lineOf l rest (firstOf rest)) (lengthOf (firstOf rest)) (callTextOf l rest)
+  ShownFirst u r = Shown t u r (lineLeft l rest (firstOf rest)) (lengthOf (firstOf rest)) (callTextOf l rest)
 
-  asked : (a : Asked) → a ≡ firstOf rest → {u : List ℕ} {r : Made} → Shown t u r (lineOf l rest a) (lengthOf a) (textOf l rest a) → ShownFirst u r
+  asked : (a : Asked) → a ≡ firstOf rest → {u : List ℕ} {r : Made} → Shown t u r (lineLeft l rest a) (lengthOf a) (textShown l rest a) → ShownFirst u r
   unfolding callTextOf
   asked a e s = rw e at s
 
@@ -65,13 +65,13 @@ module _ (l : Line) (rest t : List ℕ) where
   pub called-close : Close ≡ firstOf rest → {u : List ℕ} {r : Made} → Shown t u r (closingOf l .line) 1 (closeTextOf l) → ShownFirst u r
   called-close e s = asked Close e s
 
-  pub called-cut : (room long : ℕ) → Cut room long ≡ firstOf rest → headBytes + long ≤ length rest → (cut : List ℕ)
-      → cut ≡ take (headBytes + long - headBytes) (drop headBytes rest) → {u : List ℕ} {r : Made}
-      → Shown t u r (outcomeOf l cut room .line) (headBytes + length cut) (cutTextOf l cut (replicate room 0xA5)) → ShownFirst u r
+  pub called-cut : (room long : ℕ) → Cut room long ≡ firstOf rest → callHead + long ≤ length rest → (cut : List ℕ)
+      → cut ≡ take (callHead + long - callHead) (drop callHead rest) → {u : List ℕ} {r : Made}
+      → Shown t u r (outcomeOf l cut room .line) (callHead + length cut) (cutTextOf l cut (replicate room 0xA5)) → ShownFirst u r
   called-cut room long e h cut c s =
-      let n : headBytes + long - headBytes ≡ long = omega arith in
-      let same : cut ≡ take long (drop headBytes rest) = rw n at c in
-      let k : length (take long (drop headBytes rest)) ≡ long = length-take-le long (drop headBytes rest) (simp length-drop (omega arith)) in
+      let n : callHead + long - callHead ≡ long = omega arith in
+      let same : cut ≡ take long (drop callHead rest) = rw n at c in
+      let k : length (take long (drop callHead rest)) ≡ long = length-take-le long (drop callHead rest) (simp length-drop (omega arith)) in
       asked (Cut room long) e (rw (same, k) at s)
 
 made-is : (r : Made) {line : Line} {used long : ℕ} → r .line ≡ line → r .used ≡ used → r .long ≡ long → r ≡ record { line = line; used = used; long = long }

@@ -13,8 +13,8 @@ use Rattle.cuts_text.specs.declared.asked.Asked.{Asked}
 use Rattle.cuts_text.specs.declared.asked.Asked.the-variants.{Nothing, Close, Cut}
 
 -- the bytes in front of a cut: the sort of call, its room in two bytes, and how long the cut is in two
-abbrev pub headBytes : ℕ
-headBytes = 5
+abbrev pub callHead : ℕ
+callHead = 5
 
 -- how long the cut is
 abbrev pub cutLength : List ℕ → ℕ
@@ -23,8 +23,8 @@ cutLength rest = wordOf (getD rest 3 0) (getD rest 4 0)
 -- a cut, where its head is whole and its bytes are all there
 unfoldable pub cutOf : List ℕ → Asked
 cutOf rest =
-    if ltb (length rest) headBytes then Nothing
-    else if ltb (length rest - headBytes) (cutLength rest) then Nothing
+    if ltb (length rest) callHead then Nothing
+    else if ltb (length rest - callHead) (cutLength rest) then Nothing
     else Cut (roomOf (getD rest 1 0) (getD rest 2 0)) (cutLength rest)
 
 -- the call that bytes begin with: a 2 closes the line, and a 1 hands a cut to it
@@ -39,7 +39,7 @@ firstOf rest =
 abbrev pub lengthOf : Asked → ℕ
 lengthOf Nothing = 0
 lengthOf Close = 1
-lengthOf (Cut room long) = headBytes + long
+lengthOf (Cut room long) = callHead + long
 
 -- whether bytes are calls one after the other, so many at the most
 unfoldable pub listIn : ℕ → List ℕ → Bool

@@ -7,7 +7,7 @@ use Rattle.line.specs.declared.calls.Line.{Line}
 use Rattle.rooms_text.specs.Lengths.{roomTextLength}
 use Rattle.rooms_text.specs.Rooms.{countsOf, givenTextOf}
 use Rattle.text.specs.Lines.{linesOf}
-use Rattle.cuts_text.specs.Asked.{headBytes, firstOf, lengthOf}
+use Rattle.cuts_text.specs.Asked.{callHead, firstOf, lengthOf}
 use Rattle.cuts_text.specs.declared.asked.Asked.{Asked}
 use Rattle.cuts_text.specs.declared.asked.Asked.the-variants.{Nothing, Close, Cut}
 use Rattle.cuts_text.specs.declared.made.Made.{Made}
@@ -26,27 +26,27 @@ cutTextOf l cut out = outcomeTextOf (outcomeOf l cut (length out)) out
 
 -- the bytes of a cut, so many behind its head
 abbrev pub cutIn : List ℕ → ℕ → List ℕ
-cutIn rest long = take long (drop headBytes rest)
+cutIn rest long = take long (drop callHead rest)
 
 -- The text of a call. All bytes of an output are $A5 before the call.
-abbrev pub textOf : Line → List ℕ → Asked → List ℕ
-textOf l rest Nothing = []
-textOf l rest Close = closeTextOf l
-textOf l rest (Cut room long) = cutTextOf l (cutIn rest long) (replicate room 0xA5)
+abbrev pub textShown : Line → List ℕ → Asked → List ℕ
+textShown l rest Nothing = []
+textShown l rest Close = closeTextOf l
+textShown l rest (Cut room long) = cutTextOf l (cutIn rest long) (replicate room 0xA5)
 
 -- the line after it
-abbrev pub lineOf : Line → List ℕ → Asked → Line
-lineOf l rest Nothing = l
-lineOf l rest Close = closingOf l .line
-lineOf l rest (Cut room long) = outcomeOf l (cutIn rest long) room .line
+abbrev pub lineLeft : Line → List ℕ → Asked → Line
+lineLeft l rest Nothing = l
+lineLeft l rest Close = closingOf l .line
+lineLeft l rest (Cut room long) = outcomeOf l (cutIn rest long) room .line
 
 -- the same of the call that bytes begin with
 unfoldable pub callTextOf : Line → List ℕ → List ℕ
-callTextOf l rest = textOf l rest (firstOf rest)
+callTextOf l rest = textShown l rest (firstOf rest)
 
 unfoldable pub madeOf : Line → List ℕ → Made
 madeOf l rest =
-    record { line = lineOf l rest (firstOf rest); used = lengthOf (firstOf rest); long = length (callTextOf l rest) }
+    record { line = lineLeft l rest (firstOf rest); used = lengthOf (firstOf rest); long = length (callTextOf l rest) }
 
 -- no text of a call is longer
 abbrev pub callTextLength : ℕ

@@ -1,4 +1,5 @@
--- What the program `cuts` prints: the texts of all calls, one after the other (document 02, W3).
+-- What the program `cuts` prints: the texts of all calls, one after the other (document 02, W3). That `main` prints them so is no
+-- statement: it is held to its words.
 use Prim.Native.Nat.{ℕ, zero, suc}
 use mathlib.Core.List.{List, [], _∷_, _++_}
 use lib.Dec.{eqb}

@@ -2,6 +2,7 @@
 ghost use mathlib.Core.Path.{_≡_};
 ghost use lib.ListN.{length};
 ghost use Rattle.cuts_text.specs.Asked.{cutOf, firstOf, lengthOf, listIn, isListOf};
+ghost use Rattle.cuts_text.specs.Whole.{noCall};
 ghost use Rattle.cuts_text.specs.private.Within.{Within};
 use basics::word;
 use replay::unread_rest;
@@ -68,6 +69,13 @@ pub(crate) fn first(rest: &[u8]) -> Asked
         return cut(rest);
     }
     Asked::Nothing
+}
+
+// What is said of an input that is no list of calls.
+pub fn refusal() -> [u8; 8]
+    ensures { λ r. ⌜ r ≡ noCall ⌝ }
+{
+    *b"no call\n"
 }
 
 // Whether bytes are calls one after the other, no more than so many.

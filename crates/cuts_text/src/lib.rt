@@ -4,6 +4,7 @@ mod made;
 
 pub use asked::INPUT;
 pub use asked::is_list;
+pub use asked::refusal;
 pub use made::Made;
 pub use made::TEXT;
 pub use made::make;

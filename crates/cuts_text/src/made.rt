@@ -6,9 +6,9 @@ ghost use Rattle.basics.specs.Lay.{laidAt};
 ghost use Rattle.batch.specs.Fresh.{mostOutput};
 ghost use Rattle.text.specs.Speech.{Counts};
 ghost use Rattle.line.specs.Line.{outcomeOf, closingOf};
-ghost use Rattle.cuts_text.specs.Asked.{headBytes, firstOf, lengthOf};
-ghost use Rattle.cuts_text.specs.Made.{callTextLength, madeOf, lineOf, callTextOf, closeTextOf, cutTextOf};
-ghost use Rattle.cuts_text.specs.private.Within.{Shown, mostCut};
+ghost use Rattle.cuts_text.specs.Asked.{callHead, firstOf, lengthOf};
+ghost use Rattle.cuts_text.specs.Made.{callTextLength, madeOf, lineLeft, callTextOf, closeTextOf, cutTextOf};
+ghost use Rattle.cuts_text.specs.private.Within.{Shown, mostLong};
 use crate::asked::Asked;
 use crate::asked::HEAD;
 use crate::asked::first;
@@ -46,9 +46,9 @@ fn closed(text: &mut [u8], before: Line) -> Made
 // Hands a cut to the line, into an output.
 fn accepted(text: &mut [u8], before: Line, cut: &[u8], out: &mut [u8]) -> Made
     requires { ⌜ callTextLength ≤ length (now text) ⌝ }
-    requires { ⌜ length (now cut) ≤ mostCut ⌝ }
+    requires { ⌜ length (now cut) ≤ mostLong ⌝ }
     requires { ⌜ length (now out) ≤ mostOutput ⌝ }
-    ensures { λ r. ⌜ Shown (now (text .entry)) (now (text .exit)) r (outcomeOf before (now (cut .entry)) (length (now (out .entry))) .line) (headBytes + length (now (cut .entry))) (cutTextOf before (now (cut .entry)) (now (out .entry))) ⌝ }
+    ensures { λ r. ⌜ Shown (now (text .entry)) (now (text .exit)) r (outcomeOf before (now (cut .entry)) (length (now (out .entry))) .line) (callHead + length (now (cut .entry))) (cutTextOf before (now (cut .entry)) (now (out .entry))) ⌝ }
 {
     let called = before.accept(cut, out);
     let told = counts(called.ending, called.taken as u16, called.answers as u16);
@@ -65,9 +65,9 @@ fn accepted(text: &mut [u8], before: Line, cut: &[u8], out: &mut [u8]) -> Made
 // Hands a cut to the line, into an output of so much room.
 fn handed(text: &mut [u8], before: Line, cut: &[u8], room: usize) -> Made
     requires { ⌜ callTextLength ≤ length (now text) ⌝ }
-    requires { ⌜ length (now cut) ≤ mostCut ⌝ }
+    requires { ⌜ length (now cut) ≤ mostLong ⌝ }
     requires { ⌜ room ≤ mostOutput ⌝ }
-    ensures { λ r. ⌜ Shown (now (text .entry)) (now (text .exit)) r (outcomeOf before (now (cut .entry)) room .line) (headBytes + length (now (cut .entry))) (cutTextOf before (now (cut .entry)) (replicate room 0xA5)) ⌝ }
+    ensures { λ r. ⌜ Shown (now (text .entry)) (now (text .exit)) r (outcomeOf before (now (cut .entry)) room .line) (callHead + length (now (cut .entry))) (cutTextOf before (now (cut .entry)) (replicate room 0xA5)) ⌝ }
 {
     let mut out = [0xA5u8; OUTPUT];
     accepted(text, before, cut, &mut out[..room])
@@ -76,7 +76,7 @@ fn handed(text: &mut [u8], before: Line, cut: &[u8], room: usize) -> Made
 // The call that some bytes begin with. Where there is none, nothing is done.
 fn called(text: &mut [u8], before: Line, rest: &[u8]) -> Made
     requires { ⌜ callTextLength ≤ length (now text) ⌝ }
-    ensures { λ r. ⌜ Shown (now (text .entry)) (now (text .exit)) r (lineOf before (now (rest .entry)) (firstOf (now (rest .entry)))) (lengthOf (firstOf (now (rest .entry)))) (callTextOf before (now (rest .entry))) ⌝ }
+    ensures { λ r. ⌜ Shown (now (text .entry)) (now (text .exit)) r (lineLeft before (now (rest .entry)) (firstOf (now (rest .entry)))) (lengthOf (firstOf (now (rest .entry)))) (callTextOf before (now (rest .entry))) ⌝ }
 {
     match first(rest) {
         Asked::Nothing => Made {

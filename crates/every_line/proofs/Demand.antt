@@ -5,7 +5,7 @@ use mathlib.Core.Path.{_≡_, refl, sym, ap, _∙_}
 use native.Mathlib.Omega.{arith}
 use lib.ListN.{length, length-append}
 use Rattle.answer.specs.declared.Answer.{Answer}
-use Rattle.bodies.specs.Bodies.{locatedAnswerOf}
+use Rattle.bodies.specs.Bodies.{locatedBodyOf, locatedAnswerOf}
 use Rattle.bench.specs.Step.{onDecoded, stepOf}
 use Rattle.bench.specs.declared.step.Bench.{Bench}
 use Rattle.bench.specs.declared.step.Stepped.{Stepped}
@@ -13,7 +13,12 @@ use Rattle.bench.proofs.Steps.{decoded-first, on-locate}
 use Rattle.controller.specs.Chip.{resetOf}
 use Rattle.controller.specs.declared.chip.Controller.{Controller}
 use Rattle.frames.specs.Calls.{Call, afterCall, afterCalls, clocks, reads, afterWait, Act, waits, strikes, afterAct, afterActs}
-use Rattle.locator.specs.Locate.{locateOf}
+use Rattle.answer.specs.Answer.{doneOf, plainOf}
+use Rattle.bodies.proofs.Located.{located-refused}
+use Rattle.locator.specs.Cells.{cellAt}
+use Rattle.locator.specs.Locate.{refusalOf, cellOf, locateOf}
+use Rattle.locator.specs.declared.answer.Located.{Located}
+use Rattle.demand.specs.Demand.{Demand3}
 use Rattle.demand.proofs.Demand.{demand3-reached}
 use Rattle.record.specs.Decode.{decodeOf}
 use Rattle.record.proofs.Lines.{locate-record, reset-record}
@@ -25,7 +30,7 @@ use Rattle.line.specs.Line.{freshLine}
 use Rattle.line.specs.declared.calls.Line.{Line}
 use Rattle.every_line.specs.Records.{Sent, sentOf, stepped}
 use Rattle.every_line.specs.Cuts.{Brought}
-use Rattle.every_line.specs.Demand.{callsIn, asCall, resetRecord, locateRecord, controllerAfter, LocatedOff, Demand3OffTheLine}
+use Rattle.every_line.specs.Demand.{controllerCalls, asCall, resetRecord, locateRecord, controllerAfter, Answer3, LocatedOff, Demand3OffTheLine}
 use Rattle.every_line.proofs.Records.{benchAfter, answersTo, length-answers, run-sent}
 use Rattle.every_line.proofs.Cuts.{wide}
 
@@ -43,13 +48,13 @@ acts-called (waits (reads rs) ∷ l) c = acts-called l _
 acts-called (strikes ∷ l) c = acts-called l _
 
 -- the controller after records is the one after their calls
-sent-called : (l : List Sent) (b : Bench) → benchAfter b l .controller ≡ afterCalls (callsIn l) (b .controller)
-unfolding benchAfter callsIn afterCalls
+sent-called : (l : List Sent) (b : Bench) → benchAfter b l .controller ≡ afterCalls (controllerCalls l) (b .controller)
+unfolding benchAfter controllerCalls afterCalls
 sent-called [] b = refl
 sent-called (r ∷ l) b =
     sent-called l (stepped b r .bench)
-    ∙ ap (afterCalls (callsIn l)) (by-calls b (r .kind) (r .hi) (r .lo) (r .value))
-    ∙ sym (calls-append (callsOf (decodeOf (r .kind) (r .hi) (r .lo) (r .value))) (callsIn l) (b .controller))
+    ∙ ap (afterCalls (controllerCalls l)) (by-calls b (r .kind) (r .hi) (r .lo) (r .value))
+    ∙ sym (calls-append (callsOf (decodeOf (r .kind) (r .hi) (r .lo) (r .value))) (controllerCalls l) (b .controller))
 
 -- what a locate answers on a bench
 located : (b : Bench) → stepped b locateRecord .answer ≡ locatedAnswerOf 9 (locateOf (b .controller))
@@ -69,24 +74,46 @@ unfolding answersTo benchAfter
 answers-append [] m b = refl
 answers-append (r ∷ l) m b = ap (λ (x : List Answer). stepped b r .answer ∷ x) (answers-append l m (stepped b r .bench))
 
-calls-in-append : (l m : List Sent) → callsIn (l ++ m) ≡ callsIn l ++ callsIn m
-unfolding callsIn
+calls-in-append : (l m : List Sent) → controllerCalls (l ++ m) ≡ controllerCalls l ++ controllerCalls m
+unfolding controllerCalls
 calls-in-append [] m = refl
 calls-in-append (r ∷ l) m =
     let own = callsOf (decodeOf (r .kind) (r .hi) (r .lo) (r .value)) in
-    ap (λ (x : List Call). own ++ x) (calls-in-append l m) ∙ sym (append-assoc own (callsIn l) (callsIn m))
+    ap (λ (x : List Call). own ++ x) (calls-in-append l m) ∙ sym (append-assoc own (controllerCalls l) (controllerCalls m))
 
-module _ (first quiet : List Sent) (acts : List Act) (only : callsIn quiet ≡ map asCall acts) where
+-- what the locator found, as an answer: a refusal by its number, a cell by its row and column
+refused-answer : (l : Located) (n : ℕ) → refusalOf l ≡ n → (n ≡ 0 → ⊥) → locatedAnswerOf 9 l ≡ plainOf 9 n
+refused-answer l n e some = located-refused 9 l (λ z. some (sym e ∙ z)) ∙ ap (plainOf 9) e
+
+found-answer : (l : Located) (row column : ℕ) → (refusalOf l ≡ 0) × (cellOf l ≡ cellAt row column) → locatedAnswerOf 9 l ≡ doneOf 9 (row ∷ column ∷ [])
+unfolding locatedBodyOf
+found-answer l row column h = rw (h .0, h .1)
+
+module _ (c : Controller) (d : Demand3 c) (acts : List Act) where
+  abbrev found : List Act → Located
+  found l = locateOf (afterActs l (resetOf c))
+
+  answer3 : Answer3 c acts (locatedAnswerOf 9 (found acts))
+  answer3 =
+      record {
+        last-strike = d .last-strike acts;
+        unstruck = λ more e. refused-answer (found acts) 5 (rw e (d .unstruck more)) (λ z. absurd (omega (arith, z)));
+        named = λ before more e p r. found-answer (found acts) _ _ (rw e (d .named before more p r));
+        shared = λ before more e p x v. refused-answer (found acts) 8 (rw e (d .shared before more p x v)) (λ z. absurd (omega (arith, z)));
+        outside = λ before more e p. refused-answer (found acts) 6 (rw e (d .outside before more p)) (λ z. absurd (omega (arith, z)));
+      }
+
+module _ (first quiet : List Sent) (acts : List Act) (only : controllerCalls quiet ≡ map asCall acts) where
   abbrev early : List Sent
   early = first ++ (resetRecord ∷ quiet)
 
   -- the controller when the locate is asked
   asked : benchAfter freshBench early .controller ≡ afterActs acts (resetOf (controllerAfter first))
-  unfolding callsIn afterCalls afterCall
+  unfolding controllerCalls afterCalls afterCall
   asked =
       sent-called early freshBench
       ∙ ap (λ (l : List Call). afterCalls l (freshBench .controller)) (calls-in-append first (resetRecord ∷ quiet))
-      ∙ calls-append (callsIn first) (callsIn (resetRecord ∷ quiet)) (freshBench .controller)
+      ∙ calls-append (controllerCalls first) (controllerCalls (resetRecord ∷ quiet)) (freshBench .controller)
       ∙ rw (reset-record, only) (acts-called acts (resetOf (controllerAfter first)))
 
   module _ (more : List ℕ) (answers : List Answer) (last : Line)
@@ -107,12 +134,13 @@ module _ (first quiet : List Sent) (acts : List Act) (only : callsIn quiet ≡ m
         let order : answers ≡ answersTo freshBench all ++ rest = ap (λ (r : Run). r .answers) (sym run ∙ parts) in
         record {
           before = answersTo freshBench early;
+          answer = locatedAnswerOf 9 (locateOf (afterActs acts (resetOf (controllerAfter first))));
           behind = rest;
           order = order ∙ ap (λ (l : List Answer). l ++ rest) (answers-append early (locateRecord ∷ []) freshBench)
               ∙ append-assoc (answersTo freshBench early) (stepped b locateRecord .answer ∷ []) rest
               ∙ rw (located b, asked);
           number = length-answers freshBench early ∙ length-append first (resetRecord ∷ quiet);
-          demand = demand3-reached (callsIn first);
+          demand = answer3 (controllerAfter first) (demand3-reached (controllerCalls first)) acts;
         }
 
 pub demand3-off-the-line : Demand3OffTheLine

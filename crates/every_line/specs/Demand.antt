@@ -1,16 +1,19 @@
 -- Demand 3 over the joined records (document 02, W3): records off the line that reset the controller, then clock it, read it and fire the
 -- pen, then locate, in whatever cuts they came. proofs/Demand.antt shows it.
 use Prim.Native.Nat.{ℕ, suc, _+_}
+use mathlib.Core.Bool.{true, false}
 use mathlib.Core.List.{List, [], _∷_, _++_, map}
+use mathlib.Core.Logic.{_⊎_}
 use mathlib.Core.Path.{_≡_}
 use lib.ListN.{length}
 use Rattle.answer.specs.declared.Answer.{Answer}
-use Rattle.bodies.specs.Bodies.{locatedAnswerOf}
-use Rattle.controller.specs.Chip.{freshOf, resetOf}
+use Rattle.answer.specs.Answer.{doneOf, plainOf}
+use Rattle.facts.specs.Facts.{pictureOf}
+use Rattle.controller.specs.Chip.{freshOf}
 use Rattle.controller.specs.declared.chip.Controller.{Controller}
-use Rattle.frames.specs.Calls.{Call, read, clock, strike, afterCalls, clocks, reads, Act, waits, strikes, afterActs}
-use Rattle.locator.specs.Locate.{locateOf}
-use Rattle.demand.specs.Demand.{Demand3}
+use Rattle.frames.specs.Calls.{Call, read, clock, strike, afterCalls, Wait, clocks, reads, Act, waits, strikes}
+use Rattle.locator.specs.declared.cells.Cell.{Cell}
+use Rattle.demand.specs.Demand.{struckAt, Rival}
 use Rattle.record.specs.Decode.{decodeOf}
 use Rattle.every_record.specs.Calls.{callsOf}
 use Rattle.line.specs.Line.{freshLine}
@@ -19,9 +22,9 @@ use Rattle.every_line.specs.Records.{Sent, sentOf}
 use Rattle.every_line.specs.Cuts.{Brought}
 
 -- the calls on the controller that records make, one record after the other
-unfoldable pub callsIn : List Sent → List Call
-callsIn [] = []
-callsIn (r ∷ l) = callsOf (decodeOf (r .kind) (r .hi) (r .lo) (r .value)) ++ callsIn l
+unfoldable pub controllerCalls : List Sent → List Call
+controllerCalls [] = []
+controllerCalls (r ∷ l) = callsOf (decodeOf (r .kind) (r .hi) (r .lo) (r .value)) ++ controllerCalls l
 
 -- an act of demand 3 as a call
 abbrev pub asCall : Act → Call
@@ -38,21 +41,39 @@ locateRecord = record { kind = 9; hi = 0; lo = 0; value = 0 }
 
 -- the controller after the first records off a fresh line
 abbrev pub controllerAfter : List Sent → Controller
-controllerAfter first = afterCalls (callsIn first) freshOf
+controllerAfter first = afterCalls (controllerCalls first) freshOf
 
--- Some records, a reset, records that make no calls but those of acts (others may stand between them, for the multiplexer or refused), a
--- locate, and any bytes behind it, brought to a fresh line in any cuts and rooms: the answer to the locate is the one that demand 3 speaks
--- of. Its number in the order of the answers is that of its record.
+-- The answer to a locate, as demand 3 has it, by the acts between the reset and the locate: sentence by sentence.
+pub record Answer3 (c : Controller) (acts : List Act) (answer : Answer) : Type 0 where
+  -- these acts hold no strike, or a last one that only clocks and reads follow
+  pub last-strike : ((more : List Wait) × (acts ≡ map waits more)) ⊎ ((before : List Act) × (more : List Wait) × (acts ≡ before ++ strikes ∷ map waits more))
+  -- no strike: refused with 5
+  pub unstruck : (more : List Wait) → acts ≡ map waits more → answer ≡ plainOf 9 5
+  -- the last strike in the picture, and no other picture cell would leave its latch: done, with that very row and column
+  pub named : (before : List Act) (more : List Wait) → acts ≡ before ++ strikes ∷ map waits more
+      → pictureOf (c .regs) (struckAt c before) ≡ true → ((d : Cell) → Rival c (struckAt c before) d → ⊥)
+      → answer ≡ doneOf 9 (struckAt c before .row ∷ struckAt c before .column ∷ [])
+  -- in the picture, and another picture cell would: refused with 8
+  pub shared : (before : List Act) (more : List Wait) → acts ≡ before ++ strikes ∷ map waits more
+      → pictureOf (c .regs) (struckAt c before) ≡ true → (d : Cell) → Rival c (struckAt c before) d → answer ≡ plainOf 9 8
+  -- outside the picture: refused with 6, though a cell may share the address
+  pub outside : (before : List Act) (more : List Wait) → acts ≡ before ++ strikes ∷ map waits more
+      → pictureOf (c .regs) (struckAt c before) ≡ false → answer ≡ plainOf 9 6
+
+-- Some records, a reset, records that make no calls but those of acts (others may stand between them: for the multiplexer, refused, or
+-- locates), a locate, and any bytes behind it, brought to a fresh line in any cuts and rooms. The answer to the locate stands among the
+-- answers where its record stands among the records, and is the one that demand 3 speaks of.
 pub record LocatedOff (first quiet : List Sent) (acts : List Act) (answers : List Answer) : Type 0 where
   pub before : List Answer
+  pub answer : Answer
   pub behind : List Answer
-  pub order : answers ≡ before ++ (locatedAnswerOf 9 (locateOf (afterActs acts (resetOf (controllerAfter first)))) ∷ behind)
+  pub order : answers ≡ before ++ (answer ∷ behind)
   pub number : length before ≡ length first + suc (length quiet)
-  pub demand : Demand3 (controllerAfter first)
+  pub demand : Answer3 (controllerAfter first) acts answer
 
 abbrev pub Demand3OffTheLine : Type 0
 Demand3OffTheLine =
     (first quiet : List Sent) (acts : List Act) (more : List ℕ) (answers : List Answer) (last : Line)
-    → callsIn quiet ≡ map asCall acts
+    → controllerCalls quiet ≡ map asCall acts
     → Brought freshLine (sentOf (first ++ (resetRecord ∷ (quiet ++ (locateRecord ∷ [])))) ++ more) answers last
     → LocatedOff first quiet acts answers

@@ -18,8 +18,8 @@ use Rattle.replay.specs.declared.run.Replayed.{Replayed}
 use Rattle.replay.proofs.Runs.{run-none, run-short, run-full}
 use Rattle.replay.proofs.Replaying.{record-at}
 use Rattle.every_replay.proofs.Counts.{sound}
-use Rattle.line.specs.Held.{heldOf, keptOf, numberOf}
-use Rattle.line.specs.Line.{Outcome, openOf, emptyOf, unmovedOf, readOf, waitsOf, fullOf, outcomeOf, closingOf, calledOf, acceptOf, acceptedOf, closeOf}
+use Rattle.line.specs.Held.{heldOf, holdingOf, closingNumber}
+use Rattle.line.specs.Line.{Outcome, openOf, emptyOf, unmovedOf, runOver, waitsOf, fullOf, outcomeOf, closingOf, calledOf, acceptOf, acceptedOf, closeOf}
 use Rattle.line.specs.declared.held.Held.{Held}
 use Rattle.line.specs.declared.calls.Line.{Line}
 use Rattle.line.specs.declared.calls.Called.{Called}
@@ -51,13 +51,13 @@ closed-does l cut out h = does l cut out (unmovedOf l 12) (closed-outcome l h cu
 
 -- an open line, by how the run over its bytes ends
 module _ (l : Line) (cut : List ℕ) (room : ℕ) (o : l .closed ≡ false) where
-  pub full-outcome : readOf l cut room .ending ≡ 4 → outcomeOf l cut room ≡ fullOf l (readOf l cut room)
+  pub full-outcome : runOver l cut room .ending ≡ 4 → outcomeOf l cut room ≡ fullOf l (runOver l cut room)
   unfolding outcomeOf if_then_else_
-  full-outcome e = rw (o, eq-eqb (readOf l cut room .ending) 4 e)
+  full-outcome e = rw (o, eq-eqb (runOver l cut room .ending) 4 e)
 
-  pub waits-outcome : (readOf l cut room .ending ≡ 4 → ⊥) → outcomeOf l cut room ≡ waitsOf l cut (readOf l cut room)
+  pub waits-outcome : (runOver l cut room .ending ≡ 4 → ⊥) → outcomeOf l cut room ≡ waitsOf l cut (runOver l cut room)
   unfolding outcomeOf if_then_else_
-  waits-outcome n = rw (o, ne-eqb (readOf l cut room .ending) 4 n)
+  waits-outcome n = rw (o, ne-eqb (runOver l cut room .ending) 4 n)
 
 -- a run ends with 4, or it does not
 pub by-ending : (batch : List ℕ) (room : ℕ) (b : Bench) (P : Type 0) → (runOf batch room b .ending ≡ 4 → P) → ((runOf batch room b .ending ≡ 4 → ⊥) → P) → P
@@ -77,7 +77,7 @@ module _ (b : Bench) (cut out : List ℕ) (r : Replayed) (e : r ≡ returnedOf (
       let q : runOf cut (length out) b .ending ≡ 4 = rw e at h in
       rw e (does (emptyOf b) cut out _ (full-outcome (emptyOf b) cut (length out) refl q ∙ rw (drop-nil, kept-none, sub-zero)) out′ w)
 
-  pub replayed-waits : (r .ending ≡ 4 → ⊥) → (h : Held) → h ≡ keptOf (drop (r .taken) cut)
+  pub replayed-waits : (r .ending ≡ 4 → ⊥) → (h : Held) → h ≡ holdingOf (drop (r .taken) cut)
       → Does (emptyOf b) cut out (record { line = openOf left h; ending = 0; taken = length cut; answers = r .answers }) out′
   replayed-waits n h k = rw (k, e) (does (emptyOf b) cut out _ (waits-outcome (emptyOf b) cut (length out) refl (λ q. n (rw e q))) out′ w)
 
@@ -87,7 +87,7 @@ few [] room b h = rw (run-none room b) (λ q. absurd (omega (arith, q)), refl)
 few (x ∷ l) room b h = rw (run-short (x ∷ l) room b (omega arith) h) (λ q. absurd (omega (arith, q)), refl)
 
 module _ (l : Line) (cut out : List ℕ) (o : l .closed ≡ false) where
-  pub waits-does : length (heldOf (l .held)) + length cut < 4 → (h : Held) → h ≡ keptOf (heldOf (l .held) ++ cut)
+  pub waits-does : length (heldOf (l .held)) + length cut < 4 → (h : Held) → h ≡ holdingOf (heldOf (l .held) ++ cut)
       → Does l cut out (record { line = openOf (l .bench) h; ending = 0; taken = length cut; answers = 0 }) out
   waits-does g h k =
       let f = few (heldOf (l .held) ++ cut) (length out) (l .bench) (simp length-append (omega arith)) in
@@ -97,20 +97,30 @@ module _ (l : Line) (cut out : List ℕ) (o : l .closed ≡ false) where
   full-does g h =
       let all = heldOf (l .held) ++ cut in
       let long : 0 + 4 ≤ length all = simp length-append (omega arith) in
-      let run : readOf l cut (length out) ≡ stop (l .bench) 4 =
+      let run : runOver l cut (length out) ≡ stop (l .bench) 4 =
       ap (λ (x : List ℕ). runOf x (length out) (l .bench)) (record-at all 0 long) ∙ run-full _ _ _ _ (drop (0 + 4) all) (length out) (l .bench) h in
       let same : fullOf l (stop (l .bench) 4) ≡ unmovedOf l 4 =
       rw (kept-held (l .held), zero-sub (length (heldOf (l .held)))) (ap (λ (m : Line). unmovedOf m 4) (is-open l o)) in
       does l cut out (unmovedOf l 4) (full-outcome l cut (length out) o (ap (λ (r : Run). r .ending) run) ∙ ap (λ (r : Run). fullOf l r) run ∙ same) out (untouched out)
 
 -- closing, of a closed line and of an open one
-pub closed-close : (l : Line) → l .closed ≡ true → calledOf (unmovedOf l 12) ≡ closeOf l
-unfolding closeOf closingOf if_then_else_
-closed-close l h = rw h
+pub closing-closed : (l : Line) → l .closed ≡ true → closingOf l ≡ unmovedOf l 12
+unfolding closingOf if_then_else_
+closing-closed l h = rw h
 
-pub open-close : (l : Line) → l .closed ≡ false → calledOf (unmovedOf (record { bench = l .bench; held = l .held; closed = true }) (numberOf (l .held))) ≡ closeOf l
-unfolding closeOf closingOf if_then_else_
-open-close l h = rw h
+pub closing-open : (l : Line) → l .closed ≡ false
+    → closingOf l ≡ unmovedOf (record { bench = l .bench; held = l .held; closed = true }) (closingNumber (l .held))
+unfolding closingOf if_then_else_
+closing-open l h = rw h
+
+pub closed-close : (l : Line) → l .closed ≡ true → calledOf (unmovedOf l 12) ≡ closeOf l
+unfolding closeOf
+closed-close l h = ap calledOf (sym (closing-closed l h))
+
+pub open-close : (l : Line) → l .closed ≡ false
+    → calledOf (unmovedOf (record { bench = l .bench; held = l .held; closed = true }) (closingNumber (l .held))) ≡ closeOf l
+unfolding closeOf
+open-close l h = ap calledOf (sym (closing-open l h))
 
 -- a call takes no more than its cut has, and answers no more than has room
 within : (l : Line) (cut : List ℕ) (room : ℕ) (t : Bool) → l .closed ≡ t → (outcomeOf l cut room .taken ≤ length cut) × (8 * length (outcomeOf l cut room .answers) ≤ room)

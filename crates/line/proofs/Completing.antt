@@ -14,9 +14,9 @@ use Rattle.bench.specs.declared.step.Stepped.{Stepped}
 use Rattle.replay.specs.Run.{Run, onto, after, runOf, writtenOf}
 use Rattle.replay.proofs.Runs.{run-none, run-more}
 use Rattle.replay.proofs.Replaying.{length-written, record-at}
-use Rattle.line.specs.Held.{heldOf, keptOf}
-use Rattle.line.specs.Line.{Outcome, openOf, emptyOf, readOf, waitsOf, fullOf, outcomeOf, calledOf, acceptOf, acceptedOf}
-use Rattle.line.specs.private.Calls.{firstOf}
+use Rattle.line.specs.Held.{heldOf, holdingOf}
+use Rattle.line.specs.Line.{Outcome, openOf, emptyOf, runOver, waitsOf, fullOf, outcomeOf, calledOf, acceptOf, acceptedOf}
+use Rattle.line.specs.private.Calls.{firstRecord}
 use Rattle.line.specs.declared.held.Held.{Held}
 use Rattle.line.specs.declared.calls.Called.{Called}
 use Rattle.line.proofs.Holding.{held-most}
@@ -39,7 +39,7 @@ module _ (b : Bench) (h : Held) (cut : List ℕ) (room k : ℕ) (lacks : k + len
   s = steppedOf b all
 
   -- the first record by itself
-  pub alone : runOf (firstOf all) room b ≡ record { bench = s .bench; ending = 0; taken = 4; answers = s .answer ∷ [] }
+  pub alone : runOf (firstRecord all) room b ≡ record { bench = s .bench; ending = 0; taken = 4; answers = s .answer ∷ [] }
   alone = run-more (getD all 0 0) (getD all 1 0) (getD all 2 0) (getD all 3 0) [] room b free ∙ ap (onto 4 (s .answer ∷ [])) (run-none (room - 8) (s .bench))
 
   past : drop (0 + 4) all ≡ drop k cut
@@ -50,7 +50,7 @@ module _ (b : Bench) (h : Held) (cut : List ℕ) (room k : ℕ) (lacks : k + len
   far : (t : ℕ) → drop (4 + t) all ≡ drop t (drop k cut)
   far t = sym (drop-drop t 4 all) ∙ ap (λ (x : List ℕ). drop t x) past
 
-  read-more : readOf (openOf b h) cut room ≡ after s (runOf (drop k cut) (room - 8))
+  read-more : runOver (openOf b h) cut room ≡ after s (runOf (drop k cut) (room - 8))
   read-more =
       let long : 0 + 4 ≤ length all = simp length-append (omega arith) in
       ap (λ (x : List ℕ). runOf x room b) (record-at all 0 long)
@@ -113,8 +113,8 @@ unfolding writtenOf
 written-both a l = refl
 
 module _ (b : Bench) (h : Held) (cut out : List ℕ) (k : ℕ) (lacks : k + length (heldOf h) ≡ 4) (has : k ≤ length cut) (free : 8 ≤ length out)
-    (b₁ : Bench) (eb : b₁ ≡ runOf (firstOf (heldOf h ++ cut)) (length out) b .bench)
-    (out₁ : List ℕ) (eo : out₁ ≡ laidAt out 0 (writtenOf (runOf (firstOf (heldOf h ++ cut)) (length out) b .answers)))
+    (b₁ : Bench) (eb : b₁ ≡ runOf (firstRecord (heldOf h ++ cut)) (length out) b .bench)
+    (out₁ : List ℕ) (eo : out₁ ≡ laidAt out 0 (writtenOf (runOf (firstRecord (heldOf h ++ cut)) (length out) b .answers)))
     (rest : List ℕ) (er : rest ≡ drop k cut) where
   pub more-does : (r : Called) (out₂ : List ℕ) → Does (emptyOf b₁) rest (take (length out₁ - 8) (drop 8 out₁)) r out₂
       → Does (openOf b h) cut out (record { line = r .line; ending = r .ending; taken = k + r .taken; answers = 1 + r .answers })

@@ -12,15 +12,15 @@ heldOf (Two a b) = a ∷ b ∷ []
 heldOf (Three a b c) = a ∷ b ∷ c ∷ []
 
 -- Bytes, held. Decision: of more than three, which no call leaves to be held, the first three are.
-unfoldable pub keptOf : List ℕ → Held
-keptOf [] = Nothing
-keptOf (a ∷ []) = One a
-keptOf (a ∷ b ∷ []) = Two a b
-keptOf (a ∷ b ∷ c ∷ more) = Three a b c
+unfoldable pub holdingOf : List ℕ → Held
+holdingOf [] = Nothing
+holdingOf (a ∷ []) = One a
+holdingOf (a ∷ b ∷ []) = Two a b
+holdingOf (a ∷ b ∷ c ∷ more) = Three a b c
 
 -- the number that a line closes with: 3 for a record that was begun and never became whole, else 0
-abbrev pub numberOf : Held → ℕ
-numberOf Nothing = 0
-numberOf (One a) = 3
-numberOf (Two a b) = 3
-numberOf (Three a b c) = 3
+abbrev pub closingNumber : Held → ℕ
+closingNumber Nothing = 0
+closingNumber (One a) = 3
+closingNumber (Two a b) = 3
+closingNumber (Three a b c) = 3

@@ -10,7 +10,7 @@ use Rattle.answer.specs.declared.Answer.{Answer}
 use Rattle.bench.specs.declared.step.Bench.{Bench}
 use Rattle.replay.specs.Run.{Run, runOf, writtenOf}
 use Rattle.batch.specs.Fresh.{freshBench}
-use Rattle.line.specs.Held.{heldOf, keptOf, numberOf}
+use Rattle.line.specs.Held.{heldOf, holdingOf, closingNumber}
 use Rattle.line.specs.declared.held.Held.{Held}
 use Rattle.line.specs.declared.held.Held.the-variants.{Nothing}
 use Rattle.line.specs.declared.calls.Line.{Line}
@@ -40,14 +40,14 @@ abbrev pub unmovedOf : Line → ℕ → Outcome
 unmovedOf l ending = record { line = l; ending = ending; taken = 0; answers = [] }
 
 -- the bytes held and the cut behind them, read as one run of records, with so much room for its answers
-abbrev pub readOf : Line → List ℕ → ℕ → Run
-readOf l cut room = runOf (heldOf (l .held) ++ cut) room (l .bench)
+abbrev pub runOver : Line → List ℕ → ℕ → Run
+runOver l cut room = runOf (heldOf (l .held) ++ cut) room (l .bench)
 
 -- No whole record is left: the cut is taken to its end, and what the run left unread is held.
 abbrev pub waitsOf : Line → List ℕ → Run → Outcome
 waitsOf l cut r =
     record {
-      line = openOf (r .bench) (keptOf (drop (r .taken) (heldOf (l .held) ++ cut)));
+      line = openOf (r .bench) (holdingOf (drop (r .taken) (heldOf (l .held) ++ cut)));
       ending = 0;
       taken = length cut;
       answers = r .answers;
@@ -58,25 +58,25 @@ waitsOf l cut r =
 abbrev pub fullOf : Line → Run → Outcome
 fullOf l r =
     record {
-      line = openOf (r .bench) (keptOf (drop (r .taken) (heldOf (l .held))));
+      line = openOf (r .bench) (holdingOf (drop (r .taken) (heldOf (l .held))));
       ending = 4;
       taken = r .taken - length (heldOf (l .held));
       answers = r .answers;
     }
 
 -- A cut, into so much room. A closed line is looked at before all else: 12. An open one gives 4 where the run ends for want of room, and
--- else 0. So a run that ends with 3 ends no call: what it leaves waits for the next cut.
+-- else 0. So no cut ends with 3: what a run leaves of a record waits for the next cut.
 unfoldable pub outcomeOf : Line → List ℕ → ℕ → Outcome
 outcomeOf l cut room =
     if l .closed then unmovedOf l 12
-    else if eqb (readOf l cut room .ending) 4 then fullOf l (readOf l cut room)
-    else waitsOf l cut (readOf l cut room)
+    else if eqb (runOver l cut room .ending) 4 then fullOf l (runOver l cut room)
+    else waitsOf l cut (runOver l cut room)
 
 -- Closing. Decision: the bytes still held stay in the line, where they can be looked at; no call reads them again, since each meets 12.
 unfoldable pub closingOf : Line → Outcome
 closingOf l =
     if l .closed then unmovedOf l 12
-    else unmovedOf (record { bench = l .bench; held = l .held; closed = true }) (numberOf (l .held))
+    else unmovedOf (record { bench = l .bench; held = l .held; closed = true }) (closingNumber (l .held))
 
 -- what a call returns: its answers by their number
 abbrev pub calledOf : Outcome → Called

@@ -7,7 +7,7 @@ ghost use Rattle.basics.specs.Lay.{laidAt};
 ghost use Rattle.replay.specs.Run.{runOf, writtenOf};
 ghost use Rattle.line.specs.Held.{heldOf};
 ghost use Rattle.line.specs.Line.{openOf, emptyOf, freshLine, unmovedOf, calledOf, acceptOf, acceptedOf, closeOf};
-ghost use Rattle.line.specs.private.Calls.{firstOf, meetsOf};
+ghost use Rattle.line.specs.private.Calls.{firstRecord, meetsOf};
 use crate::held::Held;
 use bench::Bench;
 use controller::Controller;
@@ -17,7 +17,7 @@ use replay::unread_rest;
 
 const ANSWER: usize = 8;
 
-const EMPTY: u8 = 0;
+const DONE: u8 = 0;
 
 const NO_ROOM: u8 = 4;
 
@@ -99,14 +99,14 @@ fn replayed(bench: Bench, cut: &[u8], out: &mut [u8]) -> Called
         return told(after, Held::Nothing, NO_ROOM, taken, r.answers);
     }
     let held = Held::Nothing.and_bytes(unread_rest(cut, taken));
-    told(after, held, EMPTY, all, r.answers)
+    told(after, held, DONE, all, r.answers)
 }
 
 // The record that the held bytes begin and the cut ends, replayed by itself.
 fn first(bench: Bench, held: Held, cut: &[u8], out: &mut [u8]) -> Bench
     requires { ⌜ 4 ≤ length (heldOf held) + length (now cut) ⌝ }
-    ensures bench { λ r. ⌜ r ≡ runOf (firstOf (heldOf held ++ now (cut .entry))) (length (now (out .entry))) bench .bench ⌝ }
-    ensures output { λ r. ⌜ now (out .exit) ≡ laidAt (now (out .entry)) 0 (writtenOf (runOf (firstOf (heldOf held ++ now (cut .entry))) (length (now (out .entry))) bench .answers)) ⌝ }
+    ensures bench { λ r. ⌜ r ≡ runOf (firstRecord (heldOf held ++ now (cut .entry))) (length (now (out .entry))) bench .bench ⌝ }
+    ensures output { λ r. ⌜ now (out .exit) ≡ laidAt (now (out .entry)) 0 (writtenOf (runOf (firstRecord (heldOf held ++ now (cut .entry))) (length (now (out .entry))) bench .answers)) ⌝ }
 {
     let record = held.completed(cut);
     let controller = bench.controller;
@@ -182,7 +182,7 @@ impl Line {
         let full = out.len() < ANSWER;
         match meets(self.closed, short, full) {
             Met::Closed => self.unmoved(CLOSED),
-            Met::Short => told(bench, held.and_bytes(cut), EMPTY, cut.len(), 0),
+            Met::Short => told(bench, held.and_bytes(cut), DONE, cut.len(), 0),
             Met::Full => self.unmoved(NO_ROOM),
             Met::Whole => whole(bench, held, lacking, cut, out),
         }

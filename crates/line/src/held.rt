@@ -3,8 +3,8 @@ ghost use mathlib.Core.Path.{_≡_};
 ghost use mathlib.Core.List.{_∷_, [], _++_};
 ghost use Prim.Native.Nat.{_+_, _≤_};
 ghost use lib.ListN.{length};
-ghost use Rattle.line.specs.Held.{heldOf, keptOf, numberOf};
-ghost use Rattle.line.specs.private.Calls.{firstOf};
+ghost use Rattle.line.specs.Held.{heldOf, holdingOf, closingNumber};
+ghost use Rattle.line.specs.private.Calls.{firstRecord};
 
 // A fourth byte cannot be held: there is no way to say it.
 pub enum Held {
@@ -29,7 +29,7 @@ impl Held {
 
     // The number that a line closes with.
     pub(crate) fn number(self) -> u8
-        ensures { λ r. ⌜ r ≡ numberOf self ⌝ }
+        ensures { λ r. ⌜ r ≡ closingNumber self ⌝ }
     {
         match self {
             Held::Nothing => 0,
@@ -41,7 +41,7 @@ impl Held {
 
     // One byte more, where there is a place for it.
     fn and_byte(self, byte: u8) -> Held
-        ensures { λ r. ⌜ r ≡ keptOf (heldOf self ++ (byte ∷ [])) ⌝ }
+        ensures { λ r. ⌜ r ≡ holdingOf (heldOf self ++ (byte ∷ [])) ⌝ }
     {
         match self {
             Held::Nothing => Held::One(byte),
@@ -53,7 +53,7 @@ impl Held {
 
     // More bytes, as far as there are places for them.
     pub(crate) fn and_bytes(self, bytes: &[u8]) -> Held
-        ensures { λ r. ⌜ r ≡ keptOf (heldOf self ++ now (bytes .entry)) ⌝ }
+        ensures { λ r. ⌜ r ≡ holdingOf (heldOf self ++ now (bytes .entry)) ⌝ }
     {
         let mut held = self;
         let mut i: usize = 0;
@@ -67,7 +67,7 @@ impl Held {
     // The record that these bytes begin and a cut ends.
     pub(crate) fn completed(self, cut: &[u8]) -> [u8; 4]
         requires { ⌜ 4 ≤ length (heldOf self) + length (now cut) ⌝ }
-        ensures { λ r. ⌜ r ≡ firstOf (heldOf self ++ now (cut .entry)) ⌝ }
+        ensures { λ r. ⌜ r ≡ firstRecord (heldOf self ++ now (cut .entry)) ⌝ }
     {
         match self {
             Held::Nothing => [cut[0], cut[1], cut[2], cut[3]],

@@ -110,7 +110,9 @@ use Rattle.line.proofs.calls.Line.fresh.Reads as line·fresh
 use Rattle.line.proofs.calls.Line.accept.Reads as line·accept
 use Rattle.line.proofs.calls.Line.close.Reads as line·close
 use Rattle.serial_text.proofs.tell_end.Reads as serial-text·tell-end
+use Rattle.serial_text.proofs.space.Reads as serial-text·space
 use Rattle.serial_text.proofs.tell.Reads as serial-text·tell
+use Rattle.cuts_text.proofs.refusal.Reads as cuts-text·refusal
 use Rattle.cuts_text.proofs.is_list.Reads as cuts-text·is-list
 use Rattle.cuts_text.proofs.make.Reads as cuts-text·make
 use Rattle.exports.proofs.controller_fresh.Reads as exports·controller-fresh
@@ -440,8 +442,14 @@ line-close κs a x y s t p q = one-answer p q
 pub serial-text-tell-end : OneAnswer serial-text·tell-end.Post (λ κs r s. r beside now (s .1 .0))
 serial-text-tell-end κs a x y s t p q = one-answer (p .1 .0) (q .1 .0) and one-answer (p .1 .1 .0) (q .1 .1 .0)
 
+pub serial-text-space : OneAnswer serial-text·space.Post (λ κs r s. r)
+serial-text-space κs a x y s t p q = one-answer p q
+
 pub serial-text-tell : OneAnswer serial-text·tell.Post (λ κs r s. r beside now (s .1 .1 .0) beside now (s .1 .0))
 serial-text-tell κs a x y s t p q = one-answer (p .1 .0) (q .1 .0) and one-answer (p .1 .1 .0) (q .1 .1 .0) and one-answer (p .1 .1 .1 .1) (q .1 .1 .1 .1)
+
+pub cuts-text-refusal : OneAnswer cuts-text·refusal.Post (λ κs r s. r)
+cuts-text-refusal κs a x y s t p q = one-answer p q
 
 pub cuts-text-is-list : OneAnswer cuts-text·is-list.Post (λ κs r s. r beside now (s .0))
 cuts-text-is-list κs a x y s t p q = one-answer (p .0) (q .0) and one-answer (p .1) (q .1)

@@ -33,10 +33,12 @@ use Rattle.bench.specs.declared.step.Bench.{Bench}
 use Rattle.alone.specs.Records.{writeRecordOf, clockRecordOf, strikeRecordOf}
 use Rattle.every_record.specs.Refusals.{Refusals as BenchRefusals}
 use Rattle.every_record.specs.Alone.{AsOnTheBench}
+use Rattle.every_record.specs.Calls.{ByCalls}
 use Rattle.every_record.specs.Reads.{Reads}
 use Rattle.every_record.proofs.Refusals.{refusals as bench-refusals}
 use Rattle.every_record.proofs.OnTheBench.{as-on-the-bench}
 use Rattle.every_record.proofs.Reading.{reads}
+use Rattle.every_record.proofs.Calling.{by-calls}
 use Rattle.replay.specs.Run.{runOf, replayOf, outputOf}
 use Rattle.replay.specs.Rest.{restOf, restAt}
 use Rattle.every_replay.specs.Runs.{Sound, Runs}
@@ -55,6 +57,22 @@ use Rattle.picture_total.proofs.Picture.{counted, reported}
 use Rattle.decimal.specs.Decimal.{Digits}
 use Rattle.decimal.proofs.Reading.{digits}
 use Rattle.report_text.specs.Text.{reportTextOf}
+use Rattle.line.specs.Line.{freshLine, acceptOf, acceptedOf, closeOf}
+use Rattle.line.specs.declared.calls.Line.{Line}
+use Rattle.every_line.specs.Calls.{Calls}
+use Rattle.every_line.specs.Cuts.{Together}
+use Rattle.every_line.specs.Demand.{Demand3OffTheLine}
+use Rattle.every_line.proofs.Calls.{calls}
+use Rattle.every_line.proofs.Cuts.{together}
+use Rattle.every_line.proofs.Demand.{demand3-off-the-line}
+use Rattle.serial_text.specs.Turn.{turnTextOf, toldOf}
+use Rattle.serial_text.specs.Ending.{lastTextOf}
+use Rattle.serial_listing.specs.Printed.{PrintsTheListing}
+use Rattle.serial_listing.proofs.Printed.{prints}
+use Rattle.cuts_text.specs.Asked.{isListOf}
+use Rattle.cuts_text.specs.Made.{callTextOf, madeOf}
+use Rattle.call_lists.specs.Lists.{Shows}
+use Rattle.call_lists.proofs.Lists.{shows}
 use Rattle.settled.specs.Cases.{Settled}
 use Rattle.settled.specs.Premises.{Premises}
 use Rattle.settled.proofs.Table.{table}
@@ -86,6 +104,13 @@ use Rattle.setting.proofs.start.Reads as setting·start
 use Rattle.tally.proofs.count_frame.Reads as tally·count-frame
 use Rattle.report.proofs.report.Reads as report·report
 use Rattle.report_text.proofs.tell.Reads as report-text·tell
+use Rattle.line.proofs.calls.Line.fresh.Reads as line·fresh
+use Rattle.line.proofs.calls.Line.accept.Reads as line·accept
+use Rattle.line.proofs.calls.Line.close.Reads as line·close
+use Rattle.serial_text.proofs.tell.Reads as serial-text·tell
+use Rattle.serial_text.proofs.tell_end.Reads as serial-text·tell-end
+use Rattle.cuts_text.proofs.is_list.Reads as cuts-text·is-list
+use Rattle.cuts_text.proofs.make.Reads as cuts-text·make
 use Rattle.promises.specs.States.{States}
 
 -- ---- demand 1
@@ -241,3 +266,47 @@ report-text κs a r s p = (p .1 .0, p .1 .1 .0)
 
 pub reads-driven : (b : Bench) → Reads b
 reads-driven = reads
+
+-- ---- records off the serial line
+
+pub records-call : ByCalls
+records-call = by-calls
+
+pub line-fresh : States line·fresh.Post (λ κs a r s. r ≡ freshLine)
+line-fresh κs a r s p = p
+
+pub line-accepts : States line·accept.Post (λ κs a r s. r ≡ acceptOf (a .0) (now (a .1 .0)) (now (a .1 .1 .0)))
+line-accepts κs a r s p = p .0
+
+pub line-output : States line·accept.Post (λ κs a r s. (now (s .1 .1 .0) ≡ acceptedOf (a .0) (now (a .1 .0)) (now (a .1 .1 .0))) × (now (s .1 .0) ≡ now (a .1 .0)))
+line-output κs a r s p = p .1
+
+pub line-closes : States line·close.Post (λ κs a r s. r ≡ closeOf (a .0))
+line-closes κs a r s p = p
+
+pub line-calls : (l : Line) → Calls l
+line-calls = calls
+
+pub cuts-together : (l : Line) → Together l
+cuts-together = together
+
+pub demand-three-off-the-line : Demand3OffTheLine
+demand-three-off-the-line = demand3-off-the-line
+
+pub serial-text : States serial-text·tell.Post (λ κs a r s. (r ≡ toldOf (a .0) (now (a .1 .0))) × (now (s .1 .1 .0) ≡ laidAt (now (a .1 .1 .0)) 0 (turnTextOf (a .0) (now (a .1 .0)))))
+serial-text κs a r s p = (p .1 .0, p .1 .1 .0)
+
+pub serial-end : States serial-text·tell-end.Post (λ κs a r s. (r ≡ length (lastTextOf (a .0))) × (now (s .1 .0) ≡ laidAt (now (a .1 .0)) 0 (lastTextOf (a .0))))
+serial-end κs a r s p = (p .1 .0, p .1 .1 .0)
+
+pub serial-printed : PrintsTheListing
+serial-printed = prints
+
+pub cuts-listed : States cuts-text·is-list.Post (λ κs a r s. r ≡ isListOf (now (a .0)))
+cuts-listed κs a r s p = p .0
+
+pub cuts-made : States cuts-text·make.Post (λ κs a r s. (r ≡ madeOf (a .0) (now (a .1 .0))) × (now (s .1 .1 .0) ≡ laidAt (now (a .1 .1 .0)) 0 (callTextOf (a .0) (now (a .1 .0)))))
+cuts-made κs a r s p = (p .1 .0, p .1 .1 .0)
+
+pub cuts-shown : (input : List ℕ) → Shows input
+cuts-shown = shows

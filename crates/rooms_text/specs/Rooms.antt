@@ -1,5 +1,5 @@
--- What the program `rooms` prints. The listing gives every answer room, so a replay that ends with 4 (document 01, "Records and what comes
--- back") is seen here only. Decision: the form of the input and of the text is the project's own.
+-- What the program `rooms` prints. The listing gives every answer room, so a whole replay that ends with 4 (document 01, "Records and what
+-- comes back") is seen here. Decision: the form of the input and of the text is the project's own.
 use Prim.Native.Nat.{ℕ, _+_}
 use mathlib.Core.List.{List, [], _∷_, _++_}
 use lib.Dec.{ltb}
@@ -17,7 +17,8 @@ use Rattle.text.specs.Speech.{tooLong}
 unfoldable pub roomOf : ℕ → ℕ → ℕ
 roomOf hi lo = if ltb mostOutput (wordOf hi lo) then mostOutput else wordOf hi lo
 
--- what a replay returns besides the chips, as eight bytes: the ending number, then bytes taken and answers written by two bytes each
+-- what a replay, or a call on a serial line, returns besides the chips, as eight bytes: the ending number, then bytes taken and answers
+-- written by two bytes each
 unfoldable pub countsOf : ℕ → ℕ → ℕ → List ℕ
 countsOf ending taken answers =
     ending ∷ highOf taken ∷ lowOf taken ∷ highOf answers ∷ lowOf answers ∷ 0 ∷ 0 ∷ 0 ∷ []

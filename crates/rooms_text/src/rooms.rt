@@ -38,7 +38,7 @@ pub fn room_of(hi: u8, lo: u8) -> usize
     asked
 }
 
-// The counts of a replay as eight bytes.
+// The counts of a replay, or of a call on a serial line, as eight bytes.
 pub fn counts(ending: u8, taken: u16, answers: u16) -> [u8; 8]
     ensures { λ r. ⌜ r ≡ countsOf ending taken answers ⌝ }
 {

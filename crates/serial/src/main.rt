@@ -4,6 +4,7 @@ use libc::STDERR_FILENO;
 use libc::STDIN_FILENO;
 use libc::STDOUT_FILENO;
 use line::Line;
+use serial_text::space;
 use serial_text::tell;
 use serial_text::tell_end;
 use text::said;
@@ -17,7 +18,7 @@ struct Turn {
 
 // Reads once, and prints the answers to what came. Where nothing came, the cut is empty, and so is the text.
 fn one_turn(before: Line) -> Turn {
-    let mut cut = [0u8; serial_text::CUT];
+    let mut cut = space();
     let got = libc::read(STDIN_FILENO, &mut cut);
     let n = io::count(got, &cut);
     let mut text = [0u8; serial_text::TEXT];

@@ -13,7 +13,7 @@ use Rattle.answer_lines.specs.Lines.{answerLinesOf}
 use Rattle.answer_lines.proofs.Lined.{lines-append}
 use Rattle.batch.specs.Fresh.{mostBytes, mostOutput, freshBench, freshRunOf}
 use Rattle.decimal.proofs.Digits.{one-digit}
-use Rattle.every_line.specs.Cuts.{RoomFor, Same, Cut, joinedOf, lastOf, answersOf, Roomy}
+use Rattle.every_line.specs.Cuts.{RoomFor, Same, lastOf, answersOf, Roomy}
 use Rattle.every_line.proofs.Calls.{calls}
 use Rattle.every_line.proofs.Cuts.{together}
 use Rattle.every_replay.proofs.Counts.{sound}
@@ -22,36 +22,22 @@ use Rattle.line.specs.Line.{freshLine, closingOf, outcomeOf}
 use Rattle.line.specs.declared.calls.Line.{Line}
 use Rattle.line.proofs.Holding.{held-most}
 use Rattle.lister.specs.Listing.{endOf, listedOf, batchListingOf, listingOf}
-use Rattle.serial_text.specs.Turn.{mostTurn, turnOf, turnTextOf}
+use Rattle.serial_text.specs.Turn.{mostTurnAnswers, turnOf, turnTextOf}
 use Rattle.serial_text.specs.Ending.{lastTextOf}
 use Rattle.text.specs.Lines.{perLine}
-use Rattle.serial_listing.specs.Printed.{inputOf, Read, soFarOf, lineAfter, printedOf, Printed, PrintsTheListing}
+use Rattle.serial_listing.specs.Printed.{asCuts, inputOf, WithinOneRead, soFarOf, printedOf, Printed, PrintsTheListing}
 
--- what is read, as cuts with their room
-unfoldable asCuts : List (List ℕ) → List Cut
-asCuts [] = []
-asCuts (cut ∷ cuts) = record { bytes = cut; room = perLine * mostTurn } ∷ asCuts cuts
-
-input-joined : (cuts : List (List ℕ)) → joinedOf (asCuts cuts) ≡ inputOf cuts
-unfolding asCuts joinedOf inputOf
-input-joined [] = refl
-input-joined (cut ∷ cuts) = ap (λ (x : List ℕ). cut ++ x) (input-joined cuts)
-
-line-last : (l : Line) (cuts : List (List ℕ)) → lastOf l (asCuts cuts) ≡ lineAfter l cuts
-unfolding asCuts lastOf lineAfter
-line-last l [] = refl
-line-last l (cut ∷ cuts) = line-last (turnOf l cut .line) cuts
-
+-- the texts are the lines of all answers
 lines-so-far : (l : Line) (cuts : List (List ℕ)) → soFarOf l cuts ≡ answerLinesOf (answersOf l (asCuts cuts))
-unfolding asCuts soFarOf answersOf turnTextOf answerLinesOf
+unfolding soFarOf answersOf turnTextOf answerLinesOf
 lines-so-far l [] = refl
 lines-so-far l (cut ∷ cuts) =
     let k = turnOf l cut in
     ap (λ (x : List ℕ). answerLinesOf (k .answers) ++ x) (lines-so-far (k .line) cuts) ∙ sym (lines-append (k .answers) (answersOf (k .line) (asCuts cuts)))
 
 -- each of them has room for the answers that it can give
-read-roomy : (l : Line) (cuts : List (List ℕ)) → Read cuts → Roomy l (asCuts cuts)
-unfolding asCuts Read Roomy
+read-roomy : (l : Line) (cuts : List (List ℕ)) → WithinOneRead cuts → Roomy l (asCuts cuts)
+unfolding WithinOneRead Roomy
 read-roomy l [] h = tt
 read-roomy l (cut ∷ cuts) h =
     (simp length-append (omega (arith, held-most (l .held), h .0)), read-roomy (turnOf l cut .line) cuts (h .1))
@@ -63,10 +49,10 @@ last-end l n e h =
     let digit : n % 10 ≡ n = omega arith in
     rw (e, one-digit 19 n h, digit)
 
-module _ (cuts : List (List ℕ)) (read : Read cuts) (room : ℕ) (enough : RoomFor (inputOf cuts) room) where
-  same : Same (answersOf freshLine (asCuts cuts)) (lineAfter freshLine cuts) (freshRunOf (inputOf cuts) room)
+module _ (cuts : List (List ℕ)) (read : WithinOneRead cuts) (room : ℕ) (enough : RoomFor (inputOf cuts) room) where
+  same : Same (answersOf freshLine (asCuts cuts)) (lastOf freshLine (asCuts cuts)) (freshRunOf (inputOf cuts) room)
   unfolding freshRunOf
-  same = rw (input-joined cuts, line-last freshLine cuts) at (together freshLine .cuts refl (asCuts cuts) (read-roomy freshLine cuts read) room (rw (input-joined cuts) enough))
+  same = together freshLine .cuts refl (asCuts cuts) (read-roomy freshLine cuts read) room enough
 
   small : freshRunOf (inputOf cuts) room .ending < 10
   unfolding freshRunOf
@@ -77,9 +63,9 @@ module _ (cuts : List (List ℕ)) (read : Read cuts) (room : ℕ) (enough : Room
 
   all : printedOf cuts ≡ listedOf (freshRunOf (inputOf cuts) room)
   unfolding listedOf
-  all = ap₂ (λ (x y : List ℕ). x ++ y) lines (last-end (lineAfter freshLine cuts) (freshRunOf (inputOf cuts) room .ending) (same .number-same) small)
+  all = ap₂ (λ (x y : List ℕ). x ++ y) lines (last-end (lastOf freshLine (asCuts cuts)) (freshRunOf (inputOf cuts) room .ending) (same .number-same) small)
 
-is-listing : (cuts : List (List ℕ)) → Read cuts → length (inputOf cuts) ≤ mostBytes → printedOf cuts ≡ listingOf (inputOf cuts)
+is-listing : (cuts : List (List ℕ)) → WithinOneRead cuts → length (inputOf cuts) ≤ mostBytes → printedOf cuts ≡ listingOf (inputOf cuts)
 unfolding listingOf batchListingOf if_then_else_
 is-listing cuts read h = rw (le-ltb mostBytes (length (inputOf cuts)) h) (all cuts read mostOutput (omega arith))
 

@@ -1,6 +1,7 @@
--- What the program `serial` prints, cut after cut, and that it is the listing (document 02, W3). proofs/Printed.antt shows it.
-use Prim.Native.Nat.{ℕ, _*_, _≤_}
-use mathlib.Core.List.{List, [], _∷_, _++_}
+-- What the program `serial` prints, cut after cut, and that it is the listing (document 02, W3). proofs/Printed.antt shows it. That `main`
+-- prints these texts, one after the other, is no statement: it is held to its words.
+use Prim.Native.Nat.{ℕ, suc, _*_, _≤_}
+use mathlib.Core.List.{List, [], _∷_, _++_, map}
 use mathlib.Core.Path.{_≡_}
 use lib.ListN.{length}
 use Rattle.answer_lines.specs.Lines.{answerLinesOf}
@@ -8,32 +9,32 @@ use Rattle.batch.specs.Fresh.{mostBytes, freshRunOf}
 use Rattle.line.specs.Line.{freshLine}
 use Rattle.line.specs.declared.calls.Line.{Line}
 use Rattle.lister.specs.Listing.{listedOf, listingOf}
-use Rattle.serial_text.specs.Turn.{mostCut, turnOf, turnTextOf}
+use Rattle.text.specs.Lines.{perLine}
+use Rattle.serial_text.specs.Turn.{mostCut, mostTurnAnswers, turnOf, turnTextOf}
 use Rattle.serial_text.specs.Ending.{lastTextOf}
-use Rattle.every_line.specs.Cuts.{RoomFor}
+use Rattle.every_line.specs.Cuts.{RoomFor, Cut, joinedOf, lastOf}
+
+-- what is read, cut after cut, each call with the room that the program lends
+abbrev pub asCuts : List (List ℕ) → List Cut
+asCuts cuts = map (λ (bytes : List ℕ). record { bytes = bytes; room = perLine * mostTurnAnswers }) cuts
 
 -- the bytes of all reads, joined
-unfoldable pub inputOf : List (List ℕ) → List ℕ
-inputOf [] = []
-inputOf (cut ∷ cuts) = cut ++ inputOf cuts
+abbrev pub inputOf : List (List ℕ) → List ℕ
+inputOf cuts = joinedOf (asCuts cuts)
 
 -- what is read at once is not longer than the program reads at once
-unfoldable pub Read : List (List ℕ) → Type 0
-Read [] = Unit {0}
-Read (cut ∷ cuts) = (length cut ≤ mostCut) × Read cuts
+unfoldable pub WithinOneRead : List (List ℕ) → Type 0
+WithinOneRead [] = Unit {0}
+WithinOneRead (cut ∷ cuts) = (length cut ≤ mostCut) × WithinOneRead cuts
 
--- the texts of all cuts, and the line after the last
+-- the texts of all cuts, on the line that those before them left
 unfoldable pub soFarOf : Line → List (List ℕ) → List ℕ
 soFarOf l [] = []
 soFarOf l (cut ∷ cuts) = turnTextOf l cut ++ soFarOf (turnOf l cut .line) cuts
 
-unfoldable pub lineAfter : Line → List (List ℕ) → Line
-lineAfter l [] = l
-lineAfter l (cut ∷ cuts) = lineAfter (turnOf l cut .line) cuts
-
 -- all that is printed, the last line included
 abbrev pub printedOf : List (List ℕ) → List ℕ
-printedOf cuts = soFarOf freshLine cuts ++ lastTextOf (lineAfter freshLine cuts)
+printedOf cuts = soFarOf freshLine cuts ++ lastTextOf (lastOf freshLine (asCuts cuts))
 
 -- a replay of the whole input on fresh chips, with room for all its answers
 pub record Printed (cuts : List (List ℕ)) (room : ℕ) : Type 0 where
@@ -45,4 +46,4 @@ pub record Printed (cuts : List (List ℕ)) (room : ℕ) : Type 0 where
   pub listing : length (inputOf cuts) ≤ mostBytes → printedOf cuts ≡ listingOf (inputOf cuts)
 
 abbrev pub PrintsTheListing : Type 0
-PrintsTheListing = (cuts : List (List ℕ)) → Read cuts → (room : ℕ) → RoomFor (inputOf cuts) room → Printed cuts room
+PrintsTheListing = (cuts : List (List ℕ)) → WithinOneRead cuts → (room : ℕ) → RoomFor (inputOf cuts) room → Printed cuts room

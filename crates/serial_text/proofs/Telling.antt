@@ -19,13 +19,13 @@ use Rattle.line.specs.declared.calls.Line.{Line}
 use Rattle.line.specs.declared.calls.Called.{Called}
 use Rattle.line.proofs.Calling.{outcome-within}
 use Rattle.line.proofs.Accepting.{accept-within, accepted-same, accepted-front}
-use Rattle.serial_text.specs.Turn.{mostTurn, turnOf, turnTextOf, turnLength, toldOf}
+use Rattle.serial_text.specs.Turn.{mostTurnAnswers, turnOf, turnTextOf, turnLength, toldOf}
 use Rattle.serial_text.specs.Ending.{lastTextOf, lastLength}
 use Rattle.serial_text.specs.declared.turn.Told.{Told}
 
 -- the output as it is lent: zeros, with room for all answers
 abbrev pub mostOut : ℕ
-mostOut = perLine * mostTurn
+mostOut = perLine * mostTurnAnswers
 
 abbrev pub lent : List ℕ
 lent = replicate mostOut 0

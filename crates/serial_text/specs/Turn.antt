@@ -14,13 +14,13 @@ use Rattle.serial_text.specs.declared.turn.Told.{Told}
 abbrev pub mostCut : ℕ
 mostCut = 256
 
--- the most answers that they have, the last byte of a record that was held included
-abbrev pub mostTurn : ℕ
-mostTurn = mostCut / 4
+-- the most answers that they have: three bytes that were held and these have 64 records, as these alone have
+abbrev pub mostTurnAnswers : ℕ
+mostTurnAnswers = mostCut / 4
 
 -- the call that is made with a cut
 abbrev pub turnOf : Line → List ℕ → Outcome
-turnOf l cut = outcomeOf l cut (perLine * mostTurn)
+turnOf l cut = outcomeOf l cut (perLine * mostTurnAnswers)
 
 -- its answers, each on its line
 unfoldable pub turnTextOf : Line → List ℕ → List ℕ
@@ -28,7 +28,7 @@ turnTextOf l cut = answerLinesOf (turnOf l cut .answers)
 
 -- no text of a cut is longer
 abbrev pub turnLength : ℕ
-turnLength = markedLength * mostTurn
+turnLength = markedLength * mostTurnAnswers
 
 -- what is returned
 unfoldable pub toldOf : Line → List ℕ → Told

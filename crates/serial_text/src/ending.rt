@@ -1,4 +1,4 @@
-// The end of the line.
+// Closing the serial line.
 ghost use mathlib.Core.Path.{_≡_};
 ghost use lib.ListN.{length};
 ghost use Rattle.basics.specs.Lay.{laidAt};

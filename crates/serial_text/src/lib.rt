@@ -4,7 +4,7 @@ mod turn;
 
 pub use ending::LAST;
 pub use ending::tell_end;
-pub use turn::CUT;
 pub use turn::TEXT;
 pub use turn::Told;
+pub use turn::space;
 pub use turn::tell;

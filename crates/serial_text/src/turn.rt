@@ -1,9 +1,9 @@
 // A cut that came off the line, and its answers on lines.
 ghost use mathlib.Core.Path.{_≡_};
-ghost use lib.ListN.{length};
+ghost use lib.ListN.{length, replicate};
 ghost use Rattle.basics.specs.Lay.{laidAt};
 ghost use Rattle.text.specs.Speech.{Counts};
-ghost use Rattle.serial_text.specs.Turn.{turnLength, toldOf, turnTextOf};
+ghost use Rattle.serial_text.specs.Turn.{mostCut, turnLength, toldOf, turnTextOf};
 use answer_lines::MARKED;
 use answer_lines::put_answers;
 use line::Line;
@@ -20,6 +20,13 @@ const OUTPUT: usize = PER_LINE * ANSWERS;
 
 // The room of their lines.
 pub const TEXT: usize = MARKED * ANSWERS;
+
+// The space that a read is lent: as long as its definition says, to the byte.
+pub fn space() -> [u8; CUT]
+    ensures { λ r. ⌜ r ≡ replicate mostCut 0 ⌝ }
+{
+    [0; CUT]
+}
 
 // The line after a cut, how the call ended, the bytes taken, and how long the text is.
 pub struct Told {

@@ -8,8 +8,8 @@ use Rattle.line.specs.declared.calls.Met.{Met}
 use Rattle.line.specs.declared.calls.Met.the-variants.{Closed, Short, Full, Whole}
 
 -- the bytes of the first record
-abbrev pub firstOf : List ℕ → List ℕ
-firstOf l = getD l 0 0 ∷ getD l 1 0 ∷ getD l 2 0 ∷ getD l 3 0 ∷ []
+abbrev pub firstRecord : List ℕ → List ℕ
+firstRecord l = getD l 0 0 ∷ getD l 1 0 ∷ getD l 2 0 ∷ getD l 3 0 ∷ []
 
 -- What a cut meets: a closed line is looked at first, and the room only where a record is whole.
 unfoldable pub meetsOf : Bool → Bool → Bool → Met

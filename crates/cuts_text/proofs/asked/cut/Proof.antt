@@ -43,7 +43,8 @@ returns-3 : tie.Need-returns-3
 returns-3 c =
     let word = c .before in
     let room = word .before .before .before in
-    let rest = now (room .before .before .before .before .before .args .rest) in
+    let test = room .before .before .before in
+    let rest = now (test .before .before .args .rest) in
     (cut-whole rest _ _ (room .room-of .ensures .0) (word .word .ensures) (omega arith) (omega arith), (room .room-of .ensures .1, omega arith))
 
 pub cut-spec : {M : Type 1} → statement M

@@ -12,7 +12,8 @@ accept-requires c κs = search needs
 cast-counts : tie.Need-cast-counts
 cast-counts c =
     let asked = c .before .before .before in
-    let start = asked .before .before .before .before .before in
+    let lent = asked .before .before .before in
+    let start = lent .before .before in
     let w = accept-within _ _ _ (asked .accept .result) (asked .accept .ensures .0) in
     omega (arith, w .0, start .pre .1 .0)
 
@@ -20,7 +21,8 @@ cast-counts-2 : tie.Need-cast-counts-2
 cast-counts-2 c =
     let known = c .before in
     let asked = known .before .before .before in
-    let start = asked .before .before .before .before .before in
+    let lent = asked .before .before .before in
+    let start = lent .before .before in
     let w = accept-within _ _ _ (asked .accept .result) (asked .accept .ensures .0) in
     omega (arith, w .1, start .pre .1 .1)
 
@@ -44,7 +46,8 @@ add-t24 c =
     let told = lined .before .before .before in
     let known = told .before .before in
     let asked = known .before .before .before in
-    let start = asked .before .before .before .before .before in
+    let lent = asked .before .before .before in
+    let start = lent .before .before in
     omega (arith, start .pre .1 .0)
 
 same-length : tie.Need-same-length
@@ -61,7 +64,8 @@ returns c =
     let told = lined .before .before .before in
     let known = told .before .before in
     let asked = known .before .before .before in
-    let start = asked .before .before .before .before .before in
+    let lent = asked .before .before .before in
+    let start = lent .before .before in
     let a = start .args in
     accepts (a .before) (now (a .cut)) (now (a .out)) (start .pre .0) (start .pre .1 .1) (asked .accept .ensures .0) (asked .accept .ensures .1 .0)
     (told .counts .ensures) (lined .put-lines .ensures .1 .1 .1) (output .put-lines2 .ensures .1 .1 .1)

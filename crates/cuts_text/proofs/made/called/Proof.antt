@@ -70,7 +70,8 @@ same-length-2 c = search needs
 returns-3 : tie.Need-returns-3
 returns-3 c =
     let handed = c .before .before in
-    let arm = handed .before .before .before .before in
+    let lent = handed .before .before .before in
+    let arm = lent .before in
     let one = arm .before .before in
     let a = one .before .before .before .args in
     let w = rw (arm .room .given .1) at (one .first .ensures .1) in

@@ -30,17 +30,20 @@ add-t13 c =
     let rest = known .before in
     let unread = rest .before .before in
     let first = unread .before .before .before in
-    let start = first .before .before .before .before in
+    let lent = first .before .before .before in
+    let start = lent .before in
     let w = rest-within _ _ _ _ (now (start .args .cut)) (start .args .lacking) (unread .unread-rest .ensures .0) (rest .replayed .ensures .0) in
     omega (arith, w .0, start .good .1 .1 .1 .0 .0, start .pre .1 .0)
 
 add-t16 : tie.Need-add-t16
 add-t16 c =
-    let known = c .before .before .before .before in
+    let read = c .before .before .before in
+    let known = read .before in
     let rest = known .before in
     let unread = rest .before .before in
     let first = unread .before .before .before in
-    let start = first .before .before .before .before in
+    let lent = first .before .before .before in
+    let start = lent .before in
     let w = rest-within _ _ _ _ (now (start .args .cut)) (start .args .lacking) (unread .unread-rest .ensures .0) (rest .replayed .ensures .0) in
     omega (arith, simp (length-take, length-drop) at (w .1), start .good .1 .1 .1 .1 .0 .0, first .first .kept .1 .1 .1 .0)
 
@@ -49,11 +52,13 @@ same-length c = search needs
 
 returns : tie.Need-returns
 returns c =
-    let known = c .before .before .before .before in
+    let read = c .before .before .before in
+    let known = read .before in
     let rest = known .before in
     let unread = rest .before .before in
     let first = unread .before .before .before in
-    let start = first .before .before .before .before in
+    let lent = first .before .before .before in
+    let start = lent .before in
     let a = start .args in
     more-does (a .bench) (a .held) (now (a .cut)) (now (a .out)) (a .lacking) (start .pre .0) (start .pre .1 .0) (start .pre .1 .1)
     _ (first .first .ensures .0) _ (first .first .ensures .1) _ (unread .unread-rest .ensures .0) _ _ (rest .replayed .ensures)

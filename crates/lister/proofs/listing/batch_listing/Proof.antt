@@ -40,10 +40,12 @@ same-length c = search needs
 returns : tie.Need-returns
 returns c =
     let ended = c .before .before in
-    let lined = ended .before .before .before .before in
+    let between = ended .before .before .before in
+    let lined = between .before in
     let lent = lined .before .before in
     let replayed = lent .before .before .before in
-    let start = replayed .before .before .before .before in
+    let made = replayed .before .before .before in
+    let start = made .before in
     let r = replayed .replay-fresh .ensures in
     lists (now (start .args .batch)) (replicate mostOutput 0) (length-replicate {A = ℕ} mostOutput 0) (start .pre) (r .0) (r .1 .0)
     (lined .put-answers .ensures .1 .1 .1) (ended .end-line .ensures)

@@ -1,4 +1,4 @@
-use Rattle.line.specs.Held.{keptOf}
+use Rattle.line.specs.Held.{holdingOf}
 use borrow.Author.Needs.{needs}
 use Rattle.line.proofs.held.Held.and_byte.Statement.{statement}
 use Rattle.line.proofs.held.Held.and_byte.Tie as tie
@@ -16,19 +16,19 @@ enum-known-self-3 : tie.Need-enum-known-self-3
 enum-known-self-3 c = search needs
 
 returns : tie.Need-returns
-unfolding keptOf
+unfolding holdingOf
 returns c = rw (c .enum-told .given .1)
 
 returns-2 : tie.Need-returns-2
-unfolding keptOf
+unfolding holdingOf
 returns-2 c = rw (c .before .self .given .1)
 
 returns-3 : tie.Need-returns-3
-unfolding keptOf
+unfolding holdingOf
 returns-3 c = rw (c .before .self2 .given .1)
 
 returns-4 : tie.Need-returns-4
-unfolding keptOf
+unfolding holdingOf
 returns-4 c = rw (c .before .self3 .given .1)
 
 pub and-byte-spec : {M : Type 1} → statement M

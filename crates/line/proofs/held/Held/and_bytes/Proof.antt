@@ -7,19 +7,20 @@ use denote.Ref.{now}
 use lib.ListN.{length, take, getD}
 use lib.Seq.{take-all}
 use Rattle.basics.proofs.Laying.{take-next}
-use Rattle.line.specs.Held.{heldOf, keptOf}
+use Rattle.line.specs.Held.{heldOf, holdingOf}
+use Rattle.line.specs.declared.held.Held.{Held}
 use Rattle.line.proofs.Holding.{kept-held, kept-more}
 use Rattle.line.proofs.held.Held.and_bytes.Statement.{statement}
 use Rattle.line.proofs.held.Held.and_bytes.Tie as tie
 
 abbrev Inv-loop : tie.InvT-loop
-Inv-loop bytes held₀ i₀ held i = (i ≤ length bytes) × (held ≡ keptOf (heldOf held₀ ++ take i bytes))
+Inv-loop bytes held₀ i₀ held i = (i ≤ length bytes) × (held ≡ holdingOf (heldOf held₀ ++ take i bytes))
 
 abbrev μ-loop : tie.MeasureT-loop
 μ-loop bytes held₀ i₀ held i = length bytes - i
 
 loop-holds : tie.Need-loop-holds Inv-loop μ-loop
-loop-holds c = (omega arith, sym (ap keptOf (append-nil _) ∙ kept-held _))
+loop-holds c = (omega arith, sym (ap holdingOf (append-nil _) ∙ kept-held _))
 
 shared-slice-read-and-byte : tie.Need-shared-slice-read-and-byte Inv-loop μ-loop
 shared-slice-read-and-byte c = omega arith
@@ -40,10 +41,13 @@ loop-again c =
     let a = turn .before .before .args in
     let held = heldOf (a .self) in
     let d = now (a .bytes) in
-    let next : take (l .i + 1) d ≡ take (l .i) d ++ (getD d (l .i) 0 ∷ []) = take-next d (l .i) (omega arith) in (
+    let x = getD d (l .i) 0 ∷ [] in
+    let next : take (l .i + 1) d ≡ take (l .i) d ++ x = take-next d (l .i) (omega arith) in (
       omega arith,
       c .and-byte .ensures
-          ∙ rw (l .inv .1, kept-more (held ++ take (l .i) d) (getD d (l .i) 0 ∷ []), next) (ap keptOf (append-assoc held (take (l .i) d) (getD d (l .i) 0 ∷ []))),
+          ∙ ap (λ (h : Held). holdingOf (heldOf h ++ x)) (l .inv .1)
+          ∙ kept-more (held ++ take (l .i) d) x
+          ∙ ap holdingOf (append-assoc held (take (l .i) d) x ∙ ap (λ w. held ++ w) (sym next)),
     )
 
 returns : tie.Need-returns Inv-loop μ-loop
