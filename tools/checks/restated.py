@@ -14,10 +14,11 @@ BASE = {
     ("Prim.Native.Nat", "ℕ"), ("mathlib.Core.Path", "_≡_"), ("mathlib.Core.Bool", "true"), ("mathlib.Core.List", "List"),
     ("lib.ListN", "length"), ("denote.Ref", "now"), ("Rattle.basics.specs.Lay", "laidAt"), ("Rattle.replay.specs.Run", "runOf"),
     ("Rattle.frames.specs.Calls", "Call"), ("Rattle.frames.specs.Calls", "afterCalls"), ("Rattle.control.specs.Write", "isControlOf"),
-    ("Rattle.control.specs.declared.bits.Control", "Control"), ("Rattle.bench.specs.declared.step.Bench", "Bench"), STATES,
+    ("Rattle.control.specs.declared.bits.Control", "Control"), ("Rattle.bench.specs.declared.step.Bench", "Bench"),
+    ("Rattle.line.specs.declared.calls.Line", "Line"), STATES,
 }
 # What a theorem may be about, and the one premise that a promise has before its statement.
-ABOUT = ("ℕ", "List ℕ", "List Call", "Bench", "Control")
+ABOUT = ("ℕ", "List ℕ", "List Call", "Bench", "Control", "Line")
 PREMISES = ("isControlOf a ≡ true",)
 # What a contract speaks of: the result, its bytes or its place, or what a lent buffer holds afterwards; and of it, by the arguments.
 GIVEN = re.compile(r"r|now r|r \.ptr|now \(s(?: \.\d+)+\)")

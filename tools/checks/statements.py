@@ -11,11 +11,16 @@ from checks import antt
 # By their paths: the first digits of the sum of all words outside comments.
 SUMS = {
     "crates/basics/specs/Lay.antt": "eb00da38c261183c",
+    "crates/call_lists/specs/Lists.antt": "e76b4e1225bec963",
     "crates/control/specs/Write.antt": "cc19ff58d2cfa836",
     "crates/controller/specs/Widths.antt": "1223d07be6f9281c",
     "crates/decimal/specs/Decimal.antt": "a7053a9c0a329c3d",
     "crates/demand/specs/Demand.antt": "9f6bec85ca237f9a",
+    "crates/every_line/specs/Calls.antt": "f39ea8722da126a9",
+    "crates/every_line/specs/Cuts.antt": "a2d24932f0a8722b",
+    "crates/every_line/specs/Demand.antt": "8b88dfb90f117528",
     "crates/every_record/specs/Alone.antt": "a8717d975bede313",
+    "crates/every_record/specs/Calls.antt": "111253a3318177cf",
     "crates/every_record/specs/Reads.antt": "0b2065e4011c4ef5",
     "crates/every_record/specs/Refusals.antt": "3053fc621f83204d",
     "crates/every_replay/specs/Runs.antt": "4b0a4dff2d7d8558",
@@ -28,8 +33,9 @@ SUMS = {
     "crates/refresh_and_pictures/specs/Picture.antt": "c38d3515d934dd97",
     "crates/refresh_and_pictures/specs/Refresh.antt": "1e4f3c3808ec21aa",
     "crates/replay/specs/Run.antt": "af9cc5c81c5527a6",
-    "crates/settled/specs/Cases.antt": "f10685c6f7dabc93",
+    "crates/serial_listing/specs/Printed.antt": "0ce4981eac4c0c89",
     "crates/setting/specs/Writes.antt": "f6b1f20f926ceb9c",
+    "crates/settled/specs/Cases.antt": "f10685c6f7dabc93",
     "crates/settled/specs/Premises.antt": "4c4ff8cdc9c103ff",
 }
 

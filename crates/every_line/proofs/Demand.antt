@@ -141,6 +141,7 @@ module _ (first quiet : List Sent) (acts : List Act) (only : controllerCalls qui
               ∙ rw (located b, asked);
           number = length-answers freshBench early ∙ length-append first (resetRecord ∷ quiet);
           demand = answer3 (controllerAfter first) (demand3-reached (controllerCalls first)) acts;
+          frames = demand3-reached (controllerCalls first) .frames;
         }
 
 pub demand3-off-the-line : Demand3OffTheLine

@@ -12,6 +12,7 @@ use Rattle.facts.specs.Facts.{pictureOf}
 use Rattle.controller.specs.Chip.{freshOf}
 use Rattle.controller.specs.declared.chip.Controller.{Controller}
 use Rattle.frames.specs.Calls.{Call, read, clock, strike, afterCalls, Wait, clocks, reads, Act, waits, strikes}
+use Rattle.frames.specs.Frames.{Frames}
 use Rattle.locator.specs.declared.cells.Cell.{Cell}
 use Rattle.demand.specs.Demand.{struckAt, Rival}
 use Rattle.record.specs.Decode.{decodeOf}
@@ -70,6 +71,8 @@ pub record LocatedOff (first quiet : List Sent) (acts : List Act) (answers : Lis
   pub order : answers ≡ before ++ (answer ∷ behind)
   pub number : length before ≡ length first + suc (length quiet)
   pub demand : Answer3 (controllerAfter first) acts answer
+  -- and frames begin, from that reset on, when demand 3 says
+  pub frames : Frames (controllerAfter first)
 
 abbrev pub Demand3OffTheLine : Type 0
 Demand3OffTheLine =

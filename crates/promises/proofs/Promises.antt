@@ -293,8 +293,11 @@ cuts-together = together
 pub demand-three-off-the-line : Demand3OffTheLine
 demand-three-off-the-line = demand3-off-the-line
 
-pub serial-text : States serial-text·tell.Post (λ κs a r s. (r ≡ toldOf (a .0) (now (a .1 .0))) × (now (s .1 .1 .0) ≡ laidAt (now (a .1 .1 .0)) 0 (turnTextOf (a .0) (now (a .1 .0)))))
-serial-text κs a r s p = (p .1 .0, p .1 .1 .0)
+pub serial-told : States serial-text·tell.Post (λ κs a r s. r ≡ toldOf (a .0) (now (a .1 .0)))
+serial-told κs a r s p = p .1 .0
+
+pub serial-text : States serial-text·tell.Post (λ κs a r s. now (s .1 .1 .0) ≡ laidAt (now (a .1 .1 .0)) 0 (turnTextOf (a .0) (now (a .1 .0))))
+serial-text κs a r s p = p .1 .1 .0
 
 pub serial-end : States serial-text·tell-end.Post (λ κs a r s. (r ≡ length (lastTextOf (a .0))) × (now (s .1 .0) ≡ laidAt (now (a .1 .0)) 0 (lastTextOf (a .0))))
 serial-end κs a r s p = (p .1 .0, p .1 .1 .0)
@@ -305,8 +308,11 @@ serial-printed = prints
 pub cuts-listed : States cuts-text·is-list.Post (λ κs a r s. r ≡ isListOf (now (a .0)))
 cuts-listed κs a r s p = p .0
 
-pub cuts-made : States cuts-text·make.Post (λ κs a r s. (r ≡ madeOf (a .0) (now (a .1 .0))) × (now (s .1 .1 .0) ≡ laidAt (now (a .1 .1 .0)) 0 (callTextOf (a .0) (now (a .1 .0)))))
-cuts-made κs a r s p = (p .1 .0, p .1 .1 .0)
+pub cuts-made : States cuts-text·make.Post (λ κs a r s. r ≡ madeOf (a .0) (now (a .1 .0)))
+cuts-made κs a r s p = p .1 .0
+
+pub cuts-text : States cuts-text·make.Post (λ κs a r s. now (s .1 .1 .0) ≡ laidAt (now (a .1 .1 .0)) 0 (callTextOf (a .0) (now (a .1 .0))))
+cuts-text κs a r s p = p .1 .1 .0
 
 pub cuts-shown : (input : List ℕ) → Shows input
 cuts-shown = shows
