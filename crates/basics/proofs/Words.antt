@@ -1,9 +1,7 @@
--- Laws of bytes and bits as numbers. Assumes nothing.
-use Prim.Native.Nat.{ℕ, _*_, _<_, _≤_}
+-- Laws of bits as numbers. Assumes nothing.
+use Prim.Native.Nat.{ℕ, _<_}
 use mathlib.Core.Path.{_≡_}
 use mathlib.Core.Bool.{Bool, true, false}
-use native.Mathlib.Nat.{mul-le-mul}
-use native.Mathlib.Omega.{arith}
 use lib.Dec.{lit<}
 use Rattle.basics.specs.Bits.{num}
 
@@ -15,7 +13,3 @@ num-lt false = lit< tt
 -- and so is a result that is one
 pub number-lt : (n : ℕ) (t : Bool) → n ≡ num t → n < 2
 number-lt n t e = rw e (num-lt t)
-
--- the product of two bytes
-pub bytes-product : (a b : ℕ) → a < 256 → b < 256 → a * b ≤ 65025
-bytes-product a b p q = mul-le-mul {n₂ = 255} {m₂ = 255} (omega arith) (omega arith)

@@ -1,10 +1,13 @@
 // The picture's cells: how many rows and columns there are, and whether a strike in one would leave a latch.
 ghost use mathlib.Core.Path.{_≡_};
-ghost use Prim.Native.Nat.{_+_, _*_, _%_, min};
-ghost use Rattle.raster.specs.Registers.{rowBaseOf};
+ghost use Prim.Native.Nat.{_+_, min};
+ghost use Rattle.basics.specs.Width.{countedOf};
+ghost use Rattle.basics.specs.declared.width.Width.the-variants.{Fourteen};
+ghost use Rattle.raster.specs.Registers.{reg, rowBaseOf};
 ghost use Rattle.locator.specs.Cells.{columnsOf, rowsOf, cellScanOf, fitsOf};
 use raster::Registers;
 use raster::Scan;
+use std::num::wrapping_add_u16;
 
 #[repr(C)]
 pub struct Cell {
@@ -34,18 +37,18 @@ pub(crate) fn rows(r: Registers) -> u8
     shown_of(r.held[6], r.held[4])
 }
 
-// A start address moved on by a width for each row.
-fn rows_on(start: u16, row: u8, width: u8) -> u16
-    ensures { λ a. ⌜ a ≡ (start + row * width) % 16384 ⌝ }
+// The address that the first row begins with.
+pub(crate) fn first_base(r: Registers) -> u16
+    ensures { λ a. ⌜ a ≡ rowBaseOf r 0 ⌝ }
 {
-    (((start as u32) + (row as u32) * (width as u32)) % 16384) as u16
+    r.start() % 16384
 }
 
-// The address that a row begins with.
-pub(crate) fn row_base(r: Registers, row: u8) -> u16
-    ensures { λ a. ⌜ a ≡ rowBaseOf r row ⌝ }
+// From one row's address to the next one's: R1 on. Nothing is multiplied.
+pub(crate) fn next_base(r: Registers, base: u16) -> u16
+    ensures { λ a. ⌜ a ≡ countedOf Fourteen base (reg r 1) ⌝ }
 {
-    rows_on(r.start(), row, r.held[1])
+    wrapping_add_u16(base, r.held[1] as u16) % 16384
 }
 
 // The place of the scan in a cell, on its first line. The base is its row's.

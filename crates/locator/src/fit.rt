@@ -10,7 +10,8 @@ ghost use Rattle.locator.specs.private.Search.{joinedOf, partFitOf, rowF
 use crate::cells::Cell;
 use crate::cells::cell_fits;
 use crate::cells::columns;
-use crate::cells::row_base;
+use crate::cells::first_base;
+use crate::cells::next_base;
 use crate::cells::rows;
 use raster::Registers;
 
@@ -102,16 +103,17 @@ fn row_fit(r: Registers, base: u16, latch: u16, row: u8) -> Fit
     front_fit(r, base, latch, row, columns(r))
 }
 
-// Which cells of the picture fit. Each row's base is found here and handed down.
+// Which cells of the picture fit. A row's base is carried here from the row above it, and handed down.
 pub(crate) fn picture_fit(r: Registers, latch: u16) -> Fit
     ensures { λ q. ⌜ q ≡ fitOf r latch ⌝ }
 {
     let n = rows(r);
     let mut best = Fit::Free;
+    let mut base = first_base(r);
     let mut k: u8 = 0;
     while k < n {
-        let base = row_base(r, k);
         best = best.join(row_fit(r, base, latch, k));
+        base = next_base(r, base);
         k += 1;
     }
     best
