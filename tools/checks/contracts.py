@@ -6,7 +6,7 @@ form that they take is defined in crates/one_answer/specs/OneAnswer.antt, and in
 import dataclasses
 import re
 
-from checks import antt, crates, fixed, source
+from checks import antt, crates, fixed, products, source
 from checks.laws import BINDERS, NoForm, claim_of, fits, law_type, lends_struct, proof_of
 
 LAWS = "crates/one_answer/proofs/OneAnswer.antt"
@@ -233,4 +233,5 @@ def check(top):
     wrong += check_uses(uses, wanted)
     wrong += check_laws(stated, wanted, {use.name for use in uses})
     wrong += check_programs(top)
+    wrong += products.check(top)
     return wrong, len(wanted)
