@@ -62,11 +62,14 @@ def compile_rust(kit, out):
     return rust_through_clang(kit, source, out)
 
 
-def on_own_pages(path):
-    """A copy of an object or an archive, in the room of this tool, with each function on pages of its own."""
-    made = ROOM / f"{path.stem}-on-pages{path.suffix}"
-    made.write_bytes(on_pages(path.read_bytes()))
-    return made
+def link_measured(kit, name, archive):
+    """The measured program over an archive, under a name, with each function on pages of its own."""
+    program, paged = ROOM / name, ROOM / f"{name}.a"
+    rust = ROOM / "plain-on-pages.o"
+    rust.write_bytes(on_pages((ROOM / "plain.o").read_bytes()))
+    paged.write_bytes(on_pages(archive.read_bytes()))
+    link(kit, program, [ROOM / "harness.o", rust], paged)
+    return program
 
 
 def build(kit, prove):
@@ -74,11 +77,9 @@ def build(kit, prove):
     need("rustc")
     say("compiling the Rust side and the harness")
     ROOM.mkdir(parents=True, exist_ok=True)
-    harness, rust, program = (ROOM / name for name in ("harness.o", "plain.o", "program"))
-    made = compile_rust(kit, rust)
-    compile_c(c_compiler(kit), SOURCES / "harness.c", harness)
+    made = compile_rust(kit, ROOM / "plain.o")
+    compile_c(c_compiler(kit), SOURCES / "harness.c", ROOM / "harness.o")
     if prove:
         prove_archive(WHO)
     need_archive("tools/bench")
-    link(kit, program, [harness, on_own_pages(rust)], on_own_pages(ARCHIVE))
-    return program, made
+    return link_measured(kit, "program", ARCHIVE), made

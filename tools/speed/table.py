@@ -8,6 +8,7 @@ ROWS = [
     ("clock-1", "a character time, R0 1 (1)"),
     ("clock-0", "a character time, all registers 0"),
     ("locate", "locating a strike in the largest picture (2)"),
+    ("locate-by-rows", "the same, by row and column (2)"),
     ("fetch-000", "a display fetch, mode 000"),
     ("fetch-001", "a display fetch, mode 001"),
     ("count-largest", "a character time counted, largest frame (4)"),
@@ -64,11 +65,21 @@ def notes(made):
         "Times in nanoseconds, best of several. A ratio above 1: the proved code is faster than Rust.",
         "Both sides came to the same results before they were timed.",
         "(1) R1 40, R2 50, R3 28 hex, R4 38, R6 25, R7 30, R9 7, others 0",
-        "(2) R0 255, R1 255, R4 127, R6 127, others 0; the Rust side looks at all 127 x 255 cells",
+        "(2) R0 255, R1 255, R4 127, R6 127, others 0, or R8 4; the Rust side looks at all 127 x 255 cells",
         f"(3) a batch of {RECORDS:,} records of {CLOCKS:,} clocks, all registers 0; beside it, as Rust, the second program",
         "(4) a report of 64 settings of the largest frame, 67,616,768 character times",
         "(5) a report of 64 settings of 40 columns and 25 rows, R0 63",
     ]
+
+
+def before_table(before, now):
+    """The proved code of another archive beside that of this one, each by its times."""
+    lines = [FORM.format("", "before", "now", "before/now"), FORM.format("the proved code", "ns each", "ns each", "ratio")]
+    lines.append("-" * len(lines[0]))
+    for name, what in ROWS:
+        (earlier, _), (ours, _) = before[name], now[name]
+        lines.append(FORM.format(what, digits(earlier), digits(ours), ratio(earlier, ours)))
+    return "\n".join(lines + ["-" * len(lines[0]), "Both ran in turn. A ratio above 1: it is faster now than before."])
 
 
 def table(kit, made, times, whole):

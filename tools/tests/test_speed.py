@@ -1,6 +1,8 @@
 """The table of tools/bench, and what is said where its Rust side cannot be compiled. Nothing is proved or measured here."""
 import os
+import pathlib
 import platform
+import runpy
 import subprocess
 import sys
 import unittest
@@ -10,8 +12,10 @@ from commands import TOP, CannotRun
 from kit import Kit
 from speed import build
 from speed.programs import Whole
-from speed.table import ROWS, table
+from speed.table import ROWS, before_table, table
 from tests.trees import TreeTest
+
+BENCH = runpy.run_path(str(TOP / "tools" / "bench"), run_name="bench")
 
 # It notes what it is asked, and answers 'rt doc'.
 RT = '#!/bin/sh\ntop="${0%/bin/rt}"\necho "$*" >>"$top/asked"\necho "$top/docs/guide"\n'
@@ -58,6 +62,30 @@ class Table(unittest.TestCase):
         self.assertEqual(self.lines("emulator")[3 + len(ROWS)].split()[-2:], ["-", "-"])
 
 
+class Before(unittest.TestCase):
+    """Two archives, measured in turn."""
+
+    def test_the_table(self):
+        before, now = ({name: [time, 9.0] for name, _ in ROWS} for time in (3.0, 2.0))
+        lines = before_table(before, now).splitlines()
+        self.assertEqual(lines[0].split(), ["before", "now", "before/now"])
+        self.assertEqual([line.split() for line in lines[3:-2]], [what.split() + ["3", "2", "1.50"] for _, what in ROWS])
+
+    def test_the_best_of_each_in_turn(self):
+        programs, ran = [pathlib.Path("before"), pathlib.Path("program")], []
+        taken = iter([5.0, 40.0, 3.0, 20.0, 4.0, 30.0])
+
+        def run_harness(_, program):
+            ran.append(program)
+            time = next(taken)
+            return {"row": [time, 10 - time]}
+
+        with mock.patch.dict(BENCH["run_in_turn"].__globals__, run_harness=run_harness, say=mock.Mock()):
+            best = BENCH["run_in_turn"](None, programs)
+        self.assertEqual(best, [{"row": [3.0, 5.0]}, {"row": [20.0, -30.0]}])
+        self.assertEqual(ran, programs * 3)
+
+
 class RustSide(TreeTest):
     """How the Rust side is compiled, or why it is not, by stand-ins that alone are on the PATH."""
 
@@ -93,14 +121,20 @@ class RustSide(TreeTest):
         self.assertEqual(made, "rustc 9.9, opt-level 3, then the kit's clang 8 -O3 to x86-64")
         self.assertEqual((self.top / "plain.ll").read_text(), RETARGETED)
 
+    def assertNothingDone(self, problem, *words):
+        """The tool says what is missing, and has proved nothing."""
+        self.write()
+        done = subprocess.run([sys.executable, TOP / "tools" / "bench", *words], env={**os.environ, "PATH": f"{self.top}/bin"},
+                              stdin=subprocess.DEVNULL, capture_output=True, text=True, timeout=60)
+        self.assertEqual((done.stdout, done.stderr, done.returncode), ("", f"tools/bench: {problem}\n", 2))
+        self.assertEqual((self.top / "asked").read_text(), "doc\n")
+
     def test_no_rustc(self):
         del self.files["bin/rustc"]
-        self.write()
-        done = subprocess.run([sys.executable, TOP / "tools" / "bench"], env={**os.environ, "PATH": f"{self.top}/bin"},
-                              stdin=subprocess.DEVNULL, capture_output=True, text=True, timeout=60)
-        said = "tools/bench: the command rustc is not on the PATH\n"
-        self.assertEqual((done.stdout, done.stderr, done.returncode), ("", said, 2))
-        self.assertEqual((self.top / "asked").read_text(), "doc\n")
+        self.assertNothingDone("the command rustc is not on the PATH")
+
+    def test_no_archive_of_before(self):
+        self.assertNothingDone(f"there is no file {self.top / 'none.a'}", "--before", self.top / "none.a")
 
 
 if __name__ == "__main__":
