@@ -220,7 +220,7 @@ def check_forms(top, wanted):
 
 
 def check(top):
-    """What is wrong, line by line, and how many laws there are."""
+    """What is wrong, line by line, products on the locator's way among it, and how many laws there are."""
     wrong = list(crates.check(top))
     if wrong:
         return wrong, 0

@@ -1,17 +1,23 @@
-"""Multiplications where there may be none: on the way from the locator's `locate` down (document 02, W4).
+"""Products where there may be none: on the way from the locator's `locate` down (document 02, W4).
 
-The board's processor multiplies by a routine, which costs time and flash, and no contract can tell a product from a sum of the same value.
-A power of two that is written as a number is a shift, and needs no routine. What is called is told by its name alone: every function of
-that name, in the locator and in the crates that it stands on, counts as called, and none may go by two names.
+On the small board a product is a call of a routine, and no contract can tell it from a sum of the same value. A factor, or a divisor, that
+is a power of two and written as a number is a shift or a mask, and needs no routine. Divisors are looked at too, since compilers make
+products of quotients; the one exception is the counters' helper, whose divisor is the power of two of a width.
+
+What is called is told by its name alone: every function of that name, in the locator and in the crates that it stands on, counts as called,
+and none may go by two names. So it refuses too much rather than too little. It does not look at indices (an element whose size is no power
+of two is found by a product), nor at what the compiler makes of it all.
 """
 import re
 
 from checks import crates, source
 
 CRATE, FIRST = "locator", "locate"
-ROUTINE = re.compile(r"(?:\w+_)?(?:mul|pow)(?:_\w+)?")
+EXCEPT = "counted"
+SIGNS = ("*", "/", "%")
+ROUTINE = re.compile(r"(?:\w+_)?(?:mul|pow|div|rem)(?:_\w+)?")
 NUMBER = re.compile(r"(0x[0-9a-fA-F_]+|0b[01_]+|[0-9][0-9_]*)(?:[ui](?:8|16|32|64|128|size))?")
-NO_OPERAND = ("return", "in", "if", "while", "match", "else", "mut")  # words that a value may follow
+NO_OPERAND = ("return", "break", "in", "if", "while", "match", "else", "mut")  # words behind which a value begins
 
 
 def is_power(token):
@@ -21,15 +27,20 @@ def is_power(token):
     return value > 0 and value & (value - 1) == 0
 
 
-def is_product(body, at):
-    """Whether the sign at this place of a body stands between two operands, so that it multiplies, and neither is a power of two."""
-    before, behind = body[at - 1], body[at + 1]
-    if body[at].text == "*=":
+def is_operand(token):
+    """Whether a token may end a value, so that a sign behind it stands between two."""
+    return token.text in (")", "]", "}") or token.kind == "char" or token.kind == "word" and token.text not in NO_OPERAND
+
+
+def needs_routine(body, at):
+    """Whether the sign at this place of a body multiplies or divides, and not by a power of two that is written as a number."""
+    sign, behind = body[at].text, body[at + 1]
+    if sign.endswith("=") and sign[:-1] in SIGNS:
         return not (is_power(behind) and body[at + 2].text == ";")
-    if body[at].text != "*" or not (before.text in (")", "]", "}") or before.kind == "word" and before.text not in NO_OPERAND):
+    if sign not in SIGNS or not is_operand(body[at - 1]):
         return False
-    left = is_power(before) and body[at - 2].text not in ("*", "/", "%", ".")
-    return not (left or is_power(behind) and body[at + 2].text != ".")
+    factor = sign == "*" and is_power(body[at - 1]) and body[at - 2].text not in (*SIGNS, ".", "!")
+    return not (factor or is_power(behind) and body[at + 2].text != ".")
 
 
 def calls(body):
@@ -38,8 +49,8 @@ def calls(body):
 
 
 def products(body):
-    """The lines in which a body multiplies otherwise than by a power of two, by a sign or by a call."""
-    signs = [body[at].line for at in range(1, len(body) - 2) if is_product(body, at)]
+    """The lines in which a body needs such a routine, by a sign or by a call."""
+    signs = [body[at].line for at in range(1, len(body) - 2) if needs_routine(body, at)]
     return signs + [line for name, line in calls(body) if ROUTINE.fullmatch(name)]
 
 
@@ -76,7 +87,7 @@ def way_down(top):
 
 
 def check(top):
-    """Yields each multiplication on the way."""
+    """Yields each place on the way that needs such a routine, and each name that hides what is called."""
     if CRATE not in crates.listed(top)[0]:
         return
     way = way_down(top)
@@ -86,6 +97,7 @@ def check(top):
         for line in renamed(reader.tokens):
             yield f"{where}:{line}: brought in under another name, so that it cannot be told what {FIRST} calls"
     for name, places in sorted(way.items()):
-        for where, body in places:
+        for where, body in places if name != EXCEPT else ():
             for line in products(body):
-                yield f"{where}:{line}: {name} multiplies, on the way from {FIRST} down, and not by a power of two that is written as a number"
+                yield (f"{where}:{line}: {name} multiplies or divides by what is no power of two written as a number, "
+                       f"and {FIRST} reaches a function of that name")

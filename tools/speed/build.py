@@ -82,4 +82,4 @@ def build(kit, prove):
     if prove:
         prove_archive(WHO)
     need_archive("tools/bench")
-    return link_measured(kit, "program", ARCHIVE), made
+    return link_measured(kit, "now", ARCHIVE), made

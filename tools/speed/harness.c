@@ -220,8 +220,8 @@ static const struct { const char *row; u8 held[HELD]; double times; } frames[] =
 enum { COUNTED = sizeof frames / sizeof frames[0] };
 
 /*
- * The largest picture, in either way of addressing. Its addresses go round almost twice: the first strike has a cell of its own, the
- * second shares its address. By row and column every row has a column that could fit, so that is the most that there is to do.
+ * The largest picture, in either way of addressing: from row to row, and by row and column. Its addresses go round almost twice: one
+ * strike has a cell of its own, the other shares its address.
  */
 static const struct { const char *row; u8 held[HELD]; } pictures[] = {
     {"locate", {255, 255, 0, 0, 127, 0, 127}},

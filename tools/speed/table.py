@@ -23,9 +23,9 @@ def digits(number):
     return f"{number:,.0f}" if number >= 100 else f"{number:.3g}"
 
 
-def ratio(rust, proved):
-    """How many times as long the Rust side takes."""
-    return f"{rust / proved:,.0f}" if rust >= 100 * proved else f"{rust / proved:.2f}"
+def ratio(other, ours):
+    """How many times as long the other side takes."""
+    return f"{other / ours:,.0f}" if other >= 100 * ours else f"{other / ours:.2f}"
 
 
 def row_line(what, proved, rust):
@@ -65,7 +65,7 @@ def notes(made):
         "Times in nanoseconds, best of several. A ratio above 1: the proved code is faster than Rust.",
         "Both sides came to the same results before they were timed.",
         "(1) R1 40, R2 50, R3 28 hex, R4 38, R6 25, R7 30, R9 7, others 0",
-        "(2) R0 255, R1 255, R4 127, R6 127, others 0, or R8 4; the Rust side looks at all 127 x 255 cells",
+        "(2) R0 255, R1 255, R4 127, R6 127, others 0, by row and column R8 4; the Rust side looks at all 127 x 255 cells",
         f"(3) a batch of {RECORDS:,} records of {CLOCKS:,} clocks, all registers 0; beside it, as Rust, the second program",
         "(4) a report of 64 settings of the largest frame, 67,616,768 character times",
         "(5) a report of 64 settings of 40 columns and 25 rows, R0 63",
@@ -73,7 +73,7 @@ def notes(made):
 
 
 def before_table(before, now):
-    """The proved code of another archive beside that of this one, each by its times."""
+    """The proved code of an earlier archive beside that of this one, by the times of each."""
     lines = [FORM.format("", "before", "now", "before/now"), FORM.format("the proved code", "ns each", "ns each", "ratio")]
     lines.append("-" * len(lines[0]))
     for name, what in ROWS:

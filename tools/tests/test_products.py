@@ -1,4 +1,4 @@
-"""That nothing multiplies on the way from the locator's `locate` down: what the check refuses, on a small repository, and what it goes over here."""
+"""What tools/check-contracts refuses of products on the way from the locator's `locate` down, on a small repository, and how far it goes here."""
 import unittest
 
 from checks import products
@@ -45,7 +45,8 @@ fn unused(a: u16, b: u16) -> u16 {
         """A line of the method two calls below is refused, or is not."""
         self.files = dict(self.FILES)
         self.edit(BELOW, "        let x = 0;\n", f"        {line}\n")
-        said = "crates/below/src/lib.rt:3: base multiplies, on the way from locate down, and not by a power of two that is written as a number"
+        said = (f"{BELOW}:3: base multiplies or divides by what is no power of two written as a number, "
+                "and locate reaches a function of that name")
         self.write()
         self.assertEqual(self.wrong(), [said] if wrong else [], line)
 
@@ -54,7 +55,8 @@ fn unused(a: u16, b: u16) -> u16 {
 
     def test_products(self):
         for line in ("let x = k * k;", "let x = (k + 1) * (k);", "let x = r.held[1] * k;", "let x = 3 * k;", "let x = k * 24;", "let x = k * 0;",
-                     "k *= k;", "k *= 2 + k;", "let x = if a { 1 } else { 2 } * k;", "let x = k * 2.max(k);"):
+                     "k *= k;", "k *= 2 + k;", "let x = if a { 1 } else { 2 } * k;", "let x = k * 2.max(k);", "let x = b' ' * k;",
+                     "let x = !4 * k;"):
             with self.subTest(line):
                 self.assertBody(line, True)
 
@@ -63,6 +65,19 @@ fn unused(a: u16, b: u16) -> u16 {
             with self.subTest(line):
                 self.assertBody(line, True)
 
+    def test_quotients(self):
+        for line in ("let x = k / k;", "let x = k % (k);", "let x = 16 / k;", "let x = k % 24;", "k /= 3;", "k %= 16 + k;"):
+            with self.subTest(line):
+                self.assertBody(line, True)
+        for line in ("let x = k / 4 % 2;", "let x = (k + k) % 16384;", "k /= 2;", "k %= 0x4000;"):
+            with self.subTest(line):
+                self.assertBody(line, False)
+
+    def test_the_counters_helper_divides(self):
+        self.edit(BELOW, "        let x = 0;\n", "        let x = counted(k, k);\n")
+        self.files[BELOW] += "\nfn counted(a: u16, b: u16) -> u16 {\n    a % b\n}\n"
+        self.assertRight()
+
     def test_powers_of_two(self):
         for line in ("let x = 256 * k;", "let x = k * 16;", "let x = 0x100u16 * (k);", "let x = k * 1_024;", "let x = 1 + 4 * k;", "k *= 2;",
                      "let x = 16 as u32 + k;"):
@@ -70,19 +85,19 @@ fn unused(a: u16, b: u16) -> u16 {
                 self.assertBody(line, False)
 
     def test_calls_that_multiply(self):
-        for name in ("wrapping_mul_u16", "mul", "pow_u32", "saturating_mul"):
+        for name in ("wrapping_mul_u16", "mul", "pow_u32", "saturating_mul", "checked_rem", "div_u8"):
             with self.subTest(name):
                 self.assertBody(f"let x = {name}(k, k);", True)
-        self.assertBody("let x = multitude(k) + powder(k);", False)
+        self.assertBody("let x = multitude(k) + powder(k) + divided(k);", False)
 
     def test_what_is_lent_is_not_multiplied(self):
-        for line in ("*k = 1;", "return *k;", "let x = *k + *k;", "f(*k, *k);"):
+        for line in ("*k = 1;", "return *k;", "break *k;", "let x = *k + *k;", "f(*k, *k);"):
             with self.subTest(line):
                 self.assertBody(line, False)
 
     def test_in_the_first_function(self):
         self.edit(LOCATOR, "    fit(r, 1)", "    fit(r, 3 * 5)")
-        self.assertWrong(f"{LOCATOR}:4: locate multiplies")
+        self.assertWrong(f"{LOCATOR}:4: locate multiplies or divides")
 
     def test_every_function_of_a_name_counts_as_called(self):
         self.files[BELOW] += "\nfn base(a: u16, b: u16) -> u16 {\n    a * b\n}\n"
@@ -111,7 +126,7 @@ class Checked(ContractsTest):
 
 
 class Here(unittest.TestCase):
-    """The repository itself, which tools/check-contracts finds right."""
+    """The repository itself, which tools/check-contracts finds right; a locator under another name would be noticed here."""
 
     def test_the_way_goes_down_to_the_counter(self):
         self.assertLess({"locate", "picture_fit", "next_base", "newest", "latch", "address", "word", "counted"}, set(products.way_down(TOP)))

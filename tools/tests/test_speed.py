@@ -1,4 +1,5 @@
-"""The table of tools/bench, and what is said where its Rust side cannot be compiled. Nothing is proved or measured here."""
+"""The tables of tools/bench, two archives measured in turn, and what is said where the Rust side cannot be compiled. Nothing is proved or
+measured here."""
 import os
 import pathlib
 import platform
@@ -72,18 +73,39 @@ class Before(unittest.TestCase):
         self.assertEqual([line.split() for line in lines[3:-2]], [what.split() + ["3", "2", "1.50"] for _, what in ROWS])
 
     def test_the_best_of_each_in_turn(self):
-        programs, ran = [pathlib.Path("before"), pathlib.Path("program")], []
-        taken = iter([5.0, 40.0, 3.0, 20.0, 4.0, 30.0])
+        programs, ran = [pathlib.Path("before"), pathlib.Path("now")], []
+        taken = iter([[5.0, 8.0], [9.0, 7.0], [3.0, 9.0], [6.0, 8.0], [4.0, 9.0], [7.0, 6.0]])
 
         def run_harness(_, program):
             ran.append(program)
-            time = next(taken)
-            return {"row": [time, 10 - time]}
+            return {"row": next(taken)}
 
         with mock.patch.dict(BENCH["run_in_turn"].__globals__, run_harness=run_harness, say=mock.Mock()):
             best = BENCH["run_in_turn"](None, programs)
-        self.assertEqual(best, [{"row": [3.0, 5.0]}, {"row": [20.0, -30.0]}])
+        self.assertEqual(best, [{"row": [3.0, 8.0]}, {"row": [6.0, 6.0]}])
         self.assertEqual(ran, programs * 3)
+
+    def test_a_difference_names_the_archive(self):
+        with self.assertRaisesRegex(BENCH["Differs"], r"^locate: Rust is not where the proved code \(before\) is, after 20 steps$"):
+            BENCH["measured"]("differs\tlocate\t20\n", pathlib.Path("before"))
+
+
+class Linked(TreeTest):
+    """The measured program over an archive of any place, by a linker that only notes what it is given."""
+
+    FILES = {"linker": '#!/bin/sh\nwhile [ "$1" != -o ]; do shift; done\necho "$*" >"$2"\n', "plain.o": "rust", "harness.o": "c",
+             "elsewhere/libexports.a": "earlier"}
+
+    def test_its_parts(self):
+        self.write()
+        (self.top / "linker").chmod(0o755)
+        kit = Kit("machine", self.top, self.top / "linker", None)
+        with mock.patch.object(build, "ROOM", self.top):
+            program = build.link_measured(kit, "before", self.top / "elsewhere/libexports.a")
+        self.assertEqual(program, self.top / "before")
+        parts = [str(self.top / name) for name in ("before", "harness.o", "plain-on-pages.o", "before.a")]
+        self.assertEqual(program.read_text().split(), ["-o", *parts])
+        self.assertEqual([pathlib.Path(part).read_text() for part in parts[1:]], ["c", "rust", "earlier"])
 
 
 class RustSide(TreeTest):

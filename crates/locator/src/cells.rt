@@ -2,11 +2,12 @@
 ghost use mathlib.Core.Path.{_≡_};
 ghost use Prim.Native.Nat.{_+_, min};
 ghost use Rattle.basics.specs.Width.{countedOf};
+ghost use Rattle.basics.specs.declared.width.Width.the-variants.{Fourteen};
 ghost use Rattle.raster.specs.Registers.{reg, rowBaseOf};
 ghost use Rattle.locator.specs.Cells.{columnsOf, rowsOf, cellScanOf, fitsOf};
-use basics::Width;
 use raster::Registers;
 use raster::Scan;
+use std::num::wrapping_add_u16;
 
 #[repr(C)]
 pub struct Cell {
@@ -43,11 +44,11 @@ pub(crate) fn first_base(r: Registers) -> u16
     r.start() % 16384
 }
 
-// The address that the next row begins with, by this row's: R1 on, so that nothing has to be multiplied.
+// The address that the next row begins with, from this row's: R1 on, so that nothing has to be multiplied.
 pub(crate) fn next_base(r: Registers, base: u16) -> u16
-    ensures { λ a. ⌜ a ≡ countedOf Width.Fourteen base (reg r 1) ⌝ }
+    ensures { λ a. ⌜ a ≡ countedOf Fourteen base (reg r 1) ⌝ }
 {
-    Width::Fourteen.counted(base, r.held[1] as u16)
+    wrapping_add_u16(base, r.held[1] as u16) % 16384
 }
 
 // The place of the scan in a cell, on its first line. The base is its row's.

@@ -1,4 +1,5 @@
--- The loop's invariant: the fit of the rows met so far, and the address that the next row begins with. The measure is how many are left.
+-- The loop's invariant: no more rows were met than there are, the carried address is the one that the next row begins with, and the fit is
+-- that of the rows met so far. The measure is how many are left.
 use Prim.Native.Nat.{ℕ, _≤_, _-_}
 use mathlib.Core.Path.{_≡_, refl, ap, ap₂, sym, _∙_}
 use native.Mathlib.Numerals.{add-one}
