@@ -2,7 +2,7 @@
 
 On the small board a product is a call of a routine, and no contract can tell it from a sum of the same value. A factor, or a divisor, that
 is a power of two and written as a number is a shift or a mask, and needs no routine. Divisors are looked at too, since compilers make
-products of quotients; the one exception is the counters' helper, whose divisor is the power of two of a width.
+products of quotients; the one exception is the remainder in the counters' helper, by the power of two of a width.
 
 What is called is told by its name alone: every function of that name, in the locator and in the crates that it stands on, counts as called,
 and none may go by two names. So it refuses too much rather than too little. It does not look at indices (an element whose size is no power
@@ -13,7 +13,7 @@ import re
 from checks import crates, source
 
 CRATE, FIRST = "locator", "locate"
-EXCEPT = "counted"
+SPARED = {"counted": "%"}  # the sign that a function may have
 SIGNS = ("*", "/", "%")
 ROUTINE = re.compile(r"(?:\w+_)?(?:mul|pow|div|rem)(?:_\w+)?")
 NUMBER = re.compile(r"(0x[0-9a-fA-F_]+|0b[01_]+|[0-9][0-9_]*)(?:[ui](?:8|16|32|64|128|size))?")
@@ -48,9 +48,9 @@ def calls(body):
     return [(word.text, word.line) for word, sign in zip(body, body[1:]) if word.kind == "word" and sign.text == "("]
 
 
-def products(body):
-    """The lines in which a body needs such a routine, by a sign or by a call."""
-    signs = [body[at].line for at in range(1, len(body) - 2) if needs_routine(body, at)]
+def products(body, spared=None):
+    """The lines in which a body needs such a routine, by a sign that is not spared or by a call."""
+    signs = [body[at].line for at in range(1, len(body) - 2) if body[at].text != spared and needs_routine(body, at)]
     return signs + [line for name, line in calls(body) if ROUTINE.fullmatch(name)]
 
 
@@ -97,7 +97,7 @@ def check(top):
         for line in renamed(reader.tokens):
             yield f"{where}:{line}: brought in under another name, so that it cannot be told what {FIRST} calls"
     for name, places in sorted(way.items()):
-        for where, body in places if name != EXCEPT else ():
-            for line in products(body):
+        for where, body in places:
+            for line in products(body, SPARED.get(name)):
                 yield (f"{where}:{line}: {name} multiplies or divides by what is no power of two written as a number, "
                        f"and {FIRST} reaches a function of that name")

@@ -73,10 +73,16 @@ fn unused(a: u16, b: u16) -> u16 {
             with self.subTest(line):
                 self.assertBody(line, False)
 
-    def test_the_counters_helper_divides(self):
+    def test_the_counters_helper_takes_a_remainder_and_no_more(self):
         self.edit(BELOW, "        let x = 0;\n", "        let x = counted(k, k);\n")
         self.files[BELOW] += "\nfn counted(a: u16, b: u16) -> u16 {\n    a % b\n}\n"
         self.assertRight()
+        for body in ("a * b", "a / b", "wrapping_mul_u16(a, b) % b"):
+            with self.subTest(body):
+                self.files[BELOW] = self.there[BELOW].replace("    a % b\n", f"    {body}\n")
+                self.assertWrong(f"{BELOW}:9: counted multiplies or divides")
+                self.files[BELOW] = self.files[BELOW].replace(f"    {body}\n", "    a % b\n")
+                self.assertRight()
 
     def test_powers_of_two(self):
         for line in ("let x = 256 * k;", "let x = k * 16;", "let x = 0x100u16 * (k);", "let x = k * 1_024;", "let x = 1 + 4 * k;", "k *= 2;",
