@@ -1,11 +1,12 @@
 -- What is true of the character that the scan is at (document 01, "One character time"): picture, MA, cursor, and the latch that a
--- pen strike there leaves.
+-- pen strike there leaves (request W5).
 use Prim.Native.Nat.{ℕ, _+_, _%_}
 use mathlib.Core.Bool.{Bool, not, _&&_}
 use lib.Dec.{eqb, ltb, leb}
 use Rattle.basics.specs.Choice.{if_then_else_}
 use Rattle.basics.specs.Bits.{bit, wordOf, highOf, lowOf}
 use Rattle.raster.specs.Registers.{reg, byRowsOf}
+use Rattle.raster.specs.Scan.{nextOf}
 use Rattle.raster.specs.declared.registers.Registers.{Registers}
 use Rattle.raster.specs.declared.scan.Scan.{Scan}
 use Rattle.facts.specs.declared.facts.Facts.{Facts}
@@ -25,13 +26,10 @@ addressOf r start base row column =
 unfoldable pub maOf : Registers → Scan → ℕ
 maOf r s = addressOf r (s .start) (s .base) (s .row) (s .column)
 
--- what a strike latches where MA is an address: two on from it
-abbrev pub latchedOf : ℕ → ℕ
-latchedOf address = (address + 2) % 16384
-
--- the latch of a strike at this character
+-- what a strike at this character latches: MA where the scan itself comes to in two character times, by the registers as they are at the
+-- strike (request W5). The end of a line or of a row, adjust lines and a new frame with its start come out of the scan's own steps.
 unfoldable pub latchOf : Registers → Scan → ℕ
-latchOf r s = latchedOf (maOf r s)
+latchOf r s = maOf r (nextOf r (nextOf r s))
 
 -- blink, by R10 bits 6 and 5: 00 always shows, 01 never, 10 while field bit 3 is 0, 11 while field bit 4 is 0
 unfoldable pub blinkOf : ℕ → ℕ → Bool

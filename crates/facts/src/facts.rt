@@ -2,7 +2,7 @@
 ghost use mathlib.Core.Path.{_≡_};
 ghost use Prim.Native.Nat.{_+_, _%_};
 ghost use Rattle.basics.specs.Bits.{wordOf, highOf, lowOf};
-ghost use Rattle.facts.specs.Facts.{pictureOf, addressOf, maOf, latchedOf, latchOf, blinkOf, cursorLineOf, cursorOf, factsOf};
+ghost use Rattle.facts.specs.Facts.{pictureOf, addressOf, maOf, latchOf, blinkOf, cursorLineOf, cursorOf, factsOf};
 use basics::Width;
 use basics::word;
 use raster::Registers;
@@ -56,18 +56,11 @@ pub fn ma(r: Registers, s: Scan) -> u16
     address(r, s.start, s.base, s.row, s.column)
 }
 
-// What a strike latches where MA is this address.
-fn latched(address: u16) -> u16
-    ensures { λ a. ⌜ a ≡ latchedOf address ⌝ }
-{
-    Width::Fourteen.counted(address, 2)
-}
-
-// What a strike at this character latches.
+// What a strike at this character latches: MA two character times on.
 pub fn latch(r: Registers, s: Scan) -> u16
     ensures { λ a. ⌜ a ≡ latchOf r s ⌝ }
 {
-    latched(ma(r, s))
+    ma(r, s.next(r).next(r))
 }
 
 // Whether the cursor's blink shows it, by R10 and the field.

@@ -1,23 +1,18 @@
 -- The fit of a list of cells, taken apart as the code meets them: row by row, part by part of a row, and in a part the one column that
--- can fit.
--- Assumes nothing.
-use Prim.Native.Nat.{ℕ, zero, suc, _+_, _-_, _%_, _≤_, _<_}
+-- can fit, or one column after the other. Assumes nothing.
+use Prim.Native.Nat.{ℕ, zero, suc, _+_, _-_, _≤_, _<_}
 use mathlib.Core.Path.{_≡_, refl, ap, sym, _∙_}
 use mathlib.Core.Bool.{Bool, true, false}
 use mathlib.Core.List.{List, [], _∷_, _++_, map, map-append, append-assoc, append-nil}
 use native.Mathlib.Nat.{add-zero, add-suc, suc-add, zero-add}
 use native.Mathlib.Numerals.{add-one}
 use native.Mathlib.Omega.{arith}
-use borrow.Author.Tests.{eqb-true}
 use Rattle.basics.specs.Choice.{if_then_else_}
 use Rattle.basics.specs.Count.{count}
 use Rattle.basics.proofs.Counting.{count-append}
-use Rattle.basics.specs.Bits.{wordOf, highOf, lowOf}
-use Rattle.raster.specs.Registers.{startOf, rowBaseOf, byRowsOf}
 use Rattle.raster.specs.declared.registers.Registers.{Registers}
-use Rattle.facts.proofs.Addresses.{latch-by-base, latch-by-rows}
-use Rattle.locator.specs.Cells.{cellAt, rowCells, cellsFrom, cellScanOf, cellLatchOf, fitsOf, keep, theFit}
-use Rattle.locator.specs.private.Search.{joinedOf, partFitOf, rowFitOf, fromBaseOf, fromLowOf}
+use Rattle.locator.specs.Cells.{columnsOf, cellAt, rowCells, cellsFrom, fitsOf, keep, theFit}
+use Rattle.locator.specs.private.Search.{joinedOf, oneFitOf, frontOf, partFitOf, rowFitOf}
 use Rattle.locator.specs.declared.cells.Cell.{Cell}
 use Rattle.locator.specs.declared.fit.Fit.{Fit}
 use Rattle.locator.specs.declared.fit.Fit.the-variants.{Free, One, Many}
@@ -81,7 +76,12 @@ keep-skip f c l h = go (f c) refl
     go true e = absurd (h e)
     go false e = refl
 
--- a row of which only one column can fit, in parts: the columns before it, that column, and those behind it
+kept-one : (b : Bool) (c : Cell) → theFit (if b then c ∷ [] else []) ≡ (if b then One c else Free)
+unfolding if_then_else_ theFit
+kept-one true c = refl
+kept-one false c = refl
+
+-- a part of a row of which only one column can fit, in parts again: the columns before it, that column, and those behind it
 module _ (r : Registers) (latch row : ℕ) where
   none-kept : (a n : ℕ) → ((x : ℕ) → a ≤ x → x < a + n → fitsOf r latch (cellAt row x) ≡ true → ⊥) → keep (fitsOf r latch) (map (cellAt row) (count a n)) ≡ []
   unfolding count keep
@@ -94,12 +94,12 @@ module _ (r : Registers) (latch row : ℕ) where
   unfolding partFitOf theFit
   no-column a n h = ap theFit (none-kept a n h)
 
-  one-column : (k : ℕ) → partFitOf r latch row k 1 ≡ theFit (keep (fitsOf r latch) (cellAt row k ∷ []))
-  unfolding partFitOf count
-  one-column k = refl
+  one-column : (k : ℕ) → partFitOf r latch row k 1 ≡ oneFitOf (fitsOf r latch (cellAt row k)) (cellAt row k)
+  unfolding partFitOf count keep oneFitOf
+  one-column k = kept-one (fitsOf r latch (cellAt row k)) (cellAt row k)
 
   pub only-inside : (k n : ℕ) → k < n → ((x : ℕ) → x < n → fitsOf r latch (cellAt row x) ≡ true → x ≡ k)
-      → partFitOf r latch row 0 n ≡ theFit (keep (fitsOf r latch) (cellAt row k ∷ []))
+      → partFitOf r latch row 0 n ≡ oneFitOf (fitsOf r latch (cellAt row k)) (cellAt row k)
   unfolding joinedOf
   only-inside k n p h =
       let behind = n - (k + 1) in
@@ -118,22 +118,24 @@ module _ (r : Registers) (latch row : ℕ) where
   pub only-outside : (k n : ℕ) → n ≤ k → ((x : ℕ) → x < n → fitsOf r latch (cellAt row x) ≡ true → x ≡ k) → partFitOf r latch row 0 n ≡ Free
   only-outside k n p h = no-column 0 n (λ x u v w. let y = h x (omega arith) w in omega arith)
 
--- the column that a latch leaves over from its row's first address, in either way of addressing
-counted-on : (base x latch : ℕ) → x < 256 → ((base + x) % 16384 + 2) % 16384 ≡ latch → x ≡ fromBaseOf base latch
-counted-on base x latch h e = omega arith
+  -- the columns from a on, as a loop over them meets them
+  pub no-more : (a : ℕ) → partFitOf r latch row a 0 ≡ Free
+  no-more a = no-column a 0 (λ x u v w. omega arith)
 
-low-byte : (high start x latch : ℕ) → x < 256 → (wordOf high ((lowOf start + x) % 256) + 2) % 16384 ≡ latch → x ≡ fromLowOf start latch
-low-byte high start x latch h e = omega arith
+  pub one-more : (a x : ℕ) → a ≤ x
+      → partFitOf r latch row a (x + 1 - a) ≡ joinedOf (partFitOf r latch row a (x - a)) (oneFitOf (fitsOf r latch (cellAt row x)) (cellAt row x))
+  one-more a x h =
+      let n : x + 1 - a ≡ (x - a) + 1 = omega arith in
+      let here : a + (x - a) ≡ x = omega arith in
+      ap (partFitOf r latch row a) n
+      ∙ parts-joined r latch row a (x - a) 1
+      ∙ ap (joinedOf (partFitOf r latch row a (x - a))) (ap (λ (y : ℕ). partFitOf r latch row y 1) here ∙ one-column x)
 
-module _ (r : Registers) (row x latch : ℕ) (h : x < 256) (fits : fitsOf r latch (cellAt row x) ≡ true) where
-  leaves : cellLatchOf r (cellAt row x) 0 ≡ latch
-  unfolding fitsOf
-  leaves = eqb-true (cellLatchOf r (cellAt row x) 0) latch fits
-
-  pub by-base : byRowsOf r ≡ false → x ≡ fromBaseOf (rowBaseOf r row) latch
-  unfolding cellLatchOf
-  by-base b = counted-on (rowBaseOf r row) x latch h (sym (latch-by-base r (cellScanOf r (cellAt row x) 0) b) ∙ leaves)
-
-  pub by-low : byRowsOf r ≡ true → x ≡ fromLowOf (startOf r) latch
-  unfolding cellLatchOf
-  by-low b = low-byte ((highOf (startOf r) + row) % 64) (startOf r) x latch h (sym (latch-by-rows r (cellScanOf r (cellAt row x) 0) b) ∙ leaves)
+  -- a whole row by the two parts that the code takes
+  pub whole-row : joinedOf (partFitOf r latch row 0 (frontOf r)) (partFitOf r latch row (frontOf r) (columnsOf r - frontOf r)) ≡ rowFitOf r latch row
+  unfolding rowFitOf
+  whole-row =
+      let all : frontOf r + (columnsOf r - frontOf r) ≡ columnsOf r = omega arith in
+      ap (λ (x : ℕ). joinedOf (partFitOf r latch row 0 (frontOf r)) (partFitOf r latch row x (columnsOf r - frontOf r))) (sym (zero-add (frontOf r)))
+      ∙ sym (parts-joined r latch row 0 (frontOf r) (columnsOf r - frontOf r))
+      ∙ ap (partFitOf r latch row 0) all

@@ -1,3 +1,5 @@
+pub mod Lines
 pub mod Fits
+pub mod Columns
 pub mod Listed
 pub mod Locating

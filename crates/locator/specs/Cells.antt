@@ -1,6 +1,7 @@
--- The picture's cells, and which of them a latch fits (document 01, "The locator"). Cells are a list, row by row; nothing here searches.
+-- The picture's cells, and which of them a latch fits (document 01, "The locator", and request W5). Cells are a list, row by row, and so
+-- are a cell's lines; nothing here searches.
 use Prim.Native.Nat.{ℕ, zero, suc, _+_, _<_, _≤_, min}
-use mathlib.Core.Bool.{Bool, false}
+use mathlib.Core.Bool.{Bool, false, _||_}
 use mathlib.Core.List.{List, [], _∷_, _++_, map}
 use lib.Dec.{eqb}
 use Rattle.basics.specs.Choice.{if_then_else_}
@@ -8,7 +9,7 @@ use Rattle.basics.specs.Count.{count}
 use Rattle.raster.specs.Registers.{reg, startOf, rowBaseOf}
 use Rattle.raster.specs.declared.registers.Registers.{Registers}
 use Rattle.raster.specs.declared.scan.Scan.{Scan}
-use Rattle.facts.specs.Facts.{latchOf}
+use Rattle.facts.specs.Facts.{addressOf, latchOf}
 use Rattle.locator.specs.declared.cells.Cell.{Cell}
 use Rattle.locator.specs.declared.fit.Fit.{Fit}
 use Rattle.locator.specs.declared.fit.Fit.the-variants.{Free, One, Many}
@@ -58,13 +59,26 @@ cellScanOf r c line = record {
   adjusting = false;
 }
 
--- the latch that a strike there leaves
+-- the address of the cell: MA there, which is the same on all its lines
+unfoldable pub cellAddressOf : Registers → Cell → ℕ
+cellAddressOf r c = addressOf r (startOf r) (rowBaseOf r (c .row)) (c .row) (c .column)
+
+-- the latch that a strike in the cell leaves, on one of its lines: by the rule of every strike
 unfoldable pub cellLatchOf : Registers → Cell → ℕ → ℕ
 cellLatchOf r c line = latchOf r (cellScanOf r c line)
 
--- a cell fits a latch when a strike in it would leave that latch. All its lines latch alike, so its first one tells.
+-- the lines of a row, 0 to R9
+abbrev pub linesOf : Registers → List ℕ
+linesOf r = count 0 (reg r 9 + 1)
+
+-- whether one of a list passes a test
+unfoldable pub anyOf : {A : Type 0} → (A → Bool) → List A → Bool
+anyOf f [] = false
+anyOf f (a ∷ l) = f a || anyOf f l
+
+-- a cell fits a latch when a strike in it, on any of its lines, would leave that latch
 unfoldable pub fitsOf : Registers → ℕ → Cell → Bool
-fitsOf r latch c = eqb (cellLatchOf r c 0) latch
+fitsOf r latch c = anyOf (λ (line : ℕ). eqb (cellLatchOf r c line) latch) (linesOf r)
 
 -- the elements of a list that pass a test
 unfoldable pub keep : {A : Type 0} → (A → Bool) → List A → List A

@@ -1,10 +1,11 @@
 // The picture's cells: how many rows and columns there are, and whether a strike in one would leave a latch.
 ghost use mathlib.Core.Path.{_≡_};
-ghost use Prim.Native.Nat.{_+_, min};
+ghost use Prim.Native.Nat.{_+_, _-_, _<_, min};
 ghost use Rattle.basics.specs.Width.{countedOf};
 ghost use Rattle.basics.specs.declared.width.Width.the-variants.{Fourteen};
 ghost use Rattle.raster.specs.Registers.{reg, rowBaseOf};
 ghost use Rattle.locator.specs.Cells.{columnsOf, rowsOf, cellScanOf, fitsOf};
+ghost use Rattle.locator.specs.private.Search.{frontOf, lineFitsOf};
 use raster::Registers;
 use raster::Scan;
 use std::num::wrapping_add_u16;
@@ -37,6 +38,30 @@ pub(crate) fn rows(r: Registers) -> u8
     shown_of(r.held[6], r.held[4])
 }
 
+// One less, and 0 for 0.
+fn one_less(x: u8) -> u8
+    ensures { λ n. ⌜ n ≡ x - 1 ⌝ }
+    ensures { λ n. ⌜ n < 255 ⌝ }
+{
+    if x == 0 {
+        return 0;
+    }
+    x - 1
+}
+
+// How many columns of a row stand two or more before the line's end.
+pub(crate) fn front(r: Registers) -> u8
+    ensures { λ n. ⌜ n ≡ frontOf r ⌝ }
+    ensures { λ n. ⌜ n < 255 ⌝ }
+{
+    let n = columns(r);
+    let m = one_less(r.held[0]);
+    if n <= m {
+        return n;
+    }
+    m
+}
+
 // The address that the first row begins with.
 pub(crate) fn first_base(r: Registers) -> u16
     ensures { λ a. ⌜ a ≡ rowBaseOf r 0 ⌝ }
@@ -51,15 +76,15 @@ pub(crate) fn next_base(r: Registers, base: u16) -> u16
     wrapping_add_u16(base, r.held[1] as u16) % 16384
 }
 
-// The place of the scan in a cell, on its first line. The base is its row's.
-fn cell_scan(r: Registers, base: u16, c: Cell) -> Scan
+// The place of the scan in a cell, on one of its lines. The base is its row's.
+fn cell_scan(r: Registers, base: u16, c: Cell, line: u8) -> Scan
     requires { ⌜ base ≡ rowBaseOf r (c .row) ⌝ }
-    ensures { λ s. ⌜ s ≡ cellScanOf r c 0 ⌝ }
+    ensures { λ s. ⌜ s ≡ cellScanOf r c line ⌝ }
 {
     let start = r.start();
     Scan {
         column: c.column,
-        line: 0,
+        line,
         row: c.row,
         base,
         start,
@@ -68,10 +93,22 @@ fn cell_scan(r: Registers, base: u16, c: Cell) -> Scan
     }
 }
 
-// Whether a strike in a cell would leave a latch.
+// Whether a strike in a cell, on one of its lines, would leave a latch.
+pub(crate) fn line_fits(r: Registers, base: u16, latch: u16, c: Cell, line: u8) -> bool
+    requires { ⌜ base ≡ rowBaseOf r (c .row) ⌝ }
+    ensures { λ b. ⌜ b ≡ lineFitsOf r latch c line ⌝ }
+{
+    facts::latch(r, cell_scan(r, base, c, line)) == latch
+}
+
+// Whether a strike in a cell, on any of its lines, would leave a latch. Those two or more before the last latch alike, so the first, the
+// last and the one before it tell of all.
 pub(crate) fn cell_fits(r: Registers, base: u16, latch: u16, c: Cell) -> bool
     requires { ⌜ base ≡ rowBaseOf r (c .row) ⌝ }
     ensures { λ b. ⌜ b ≡ fitsOf r latch c ⌝ }
 {
-    facts::latch(r, cell_scan(r, base, c)) == latch
+    let last = r.held[9];
+    line_fits(r, base, latch, c, 0)
+        | line_fits(r, base, latch, c, one_less(last))
+        | line_fits(r, base, latch, c, last)
 }

@@ -1,16 +1,17 @@
-// Which cells fit a latch. A row has at most one, since its columns are fewer than the addresses they run through: so that one column
-// is computed, and the rows are gone over once.
+// Which cells fit a latch. The rows are gone over once. Where the line goes on for two characters more a row has at most one cell that fits,
+// since its columns are fewer than the addresses they run through: so that one column is computed. Only the line's last two are struck.
 ghost use mathlib.Core.Path.{_≡_};
-ghost use mathlib.Core.List.{_∷_, []};
-ghost use Prim.Native.Nat.{ℕ, _<_};
+ghost use Prim.Native.Nat.{ℕ, _+_, _-_, _<_, _≤_};
 ghost use mathlib.Core.Bool.{true};
-ghost use Rattle.raster.specs.Registers.{rowBaseOf};
-ghost use Rattle.locator.specs.Cells.{cellAt, fitsOf, keep, theFit, fitOf};
-ghost use Rattle.locator.specs.private.Search.{joinedOf, partFitOf, rowFitOf, fromBaseOf, fromLowOf};
+ghost use Rattle.raster.specs.Registers.{reg, rowBaseOf};
+ghost use Rattle.locator.specs.Cells.{columnsOf, cellAt, fitsOf, fitOf};
+ghost use Rattle.locator.specs.private.Search.{joinedOf, oneFitOf, frontOf, partFitOf, rowFitOf, fromBaseOf, fromLowOf};
 use crate::cells::Cell;
 use crate::cells::cell_fits;
 use crate::cells::columns;
 use crate::cells::first_base;
+use crate::cells::front;
+use crate::cells::line_fits;
 use crate::cells::next_base;
 use crate::cells::rows;
 use raster::Registers;
@@ -40,17 +41,16 @@ impl Fit {
     }
 }
 
-fn cell_fit(r: Registers, base: u16, latch: u16, c: Cell) -> Fit
-    requires { ⌜ base ≡ rowBaseOf r (c .row) ⌝ }
-    ensures { λ q. ⌜ q ≡ theFit (keep (fitsOf r latch) (c ∷ [])) ⌝ }
+fn one_fit(fits: bool, c: Cell) -> Fit
+    ensures { λ q. ⌜ q ≡ oneFitOf fits c ⌝ }
 {
-    if cell_fits(r, base, latch, c) {
+    if fits {
         return Fit::One(c);
     }
     Fit::Free
 }
 
-// The column at which a row from that base on reaches a latch, over all addresses.
+// The column from which a row with that base reaches a latch in two columns more, over all addresses.
 fn from_base(base: u16, latch: u16) -> u16
     ensures { λ q. ⌜ q ≡ fromBaseOf base latch ⌝ }
 {
@@ -64,10 +64,10 @@ fn from_low(start: u16, latch: u16) -> u16
     (((latch as u32) + 510 - (start as u32) % 256) % 256) as u16
 }
 
-// The one column of a row that can fit: no other below 256 does.
+// The one column of a row that can fit, of those two or more before the line's end.
 fn only_column(r: Registers, base: u16, latch: u16, row: u8) -> u16
     requires { ⌜ base ≡ rowBaseOf r row ⌝ }
-    ensures { λ q. ⌜ ((x : ℕ) → x < 256 → fitsOf r latch (cellAt row x) ≡ true → x ≡ q) ⌝ }
+    ensures { λ q. ⌜ ((x : ℕ) → x + 2 ≤ reg r 0 → x + 2 < 256 → fitsOf r latch (cellAt row x) ≡ true → x ≡ q) ⌝ }
 {
     if r.by_rows() {
         return from_low(r.start(), latch);
@@ -75,24 +75,36 @@ fn only_column(r: Registers, base: u16, latch: u16, row: u8) -> u16
     from_base(base, latch)
 }
 
-// Which of a row's first n cells fit.
-fn front_fit(r: Registers, base: u16, latch: u16, row: u8, n: u8) -> Fit
+// Which cells of a row fit, of those two or more before the line's end. Their lines latch alike, so the first tells.
+fn front_fit(r: Registers, base: u16, latch: u16, row: u8) -> Fit
     requires { ⌜ base ≡ rowBaseOf r row ⌝ }
-    ensures { λ q. ⌜ q ≡ partFitOf r latch row 0 n ⌝ }
+    ensures { λ q. ⌜ q ≡ partFitOf r latch row 0 (frontOf r) ⌝ }
 {
     let k = only_column(r, base, latch, row);
-    if k < n as u16 {
-        return cell_fit(
-            r,
-            base,
-            latch,
-            Cell {
-                row,
-                column: k as u8,
-            },
-        );
+    if k < front(r) as u16 {
+        let c = Cell {
+            row,
+            column: k as u8,
+        };
+        return one_fit(line_fits(r, base, latch, c, 0), c);
     }
     Fit::Free
+}
+
+// Which of the rest fit: two columns at the most.
+fn ends_fit(r: Registers, base: u16, latch: u16, row: u8) -> Fit
+    requires { ⌜ base ≡ rowBaseOf r row ⌝ }
+    ensures { λ q. ⌜ q ≡ partFitOf r latch row (frontOf r) (columnsOf r - frontOf r) ⌝ }
+{
+    let n = columns(r);
+    let mut best = Fit::Free;
+    let mut x = front(r);
+    while x < n {
+        let c = Cell { row, column: x };
+        best = best.join(one_fit(cell_fits(r, base, latch, c), c));
+        x += 1;
+    }
+    best
 }
 
 // Which cells of a row fit.
@@ -100,7 +112,7 @@ fn row_fit(r: Registers, base: u16, latch: u16, row: u8) -> Fit
     requires { ⌜ base ≡ rowBaseOf r row ⌝ }
     ensures { λ q. ⌜ q ≡ rowFitOf r latch row ⌝ }
 {
-    front_fit(r, base, latch, row, columns(r))
+    front_fit(r, base, latch, row).join(ends_fit(r, base, latch, row))
 }
 
 // Which cells of the picture fit. A row's base is carried here from the row above it, and handed down.

@@ -1,4 +1,5 @@
 pub mod Bases
+pub mod Fields
 pub mod LineEnds
 pub mod Outcomes
 pub mod Syncs

@@ -3,15 +3,18 @@ use borrow.Author.Needs.{needs}
 use Rattle.facts.proofs.facts.latch.Statement.{statement}
 use Rattle.facts.proofs.facts.latch.Tie as tie
 
+next-requires : tie.Need-next-requires
+next-requires c κs = search needs
+
+next-requires-2 : tie.Need-next-requires-2
+next-requires-2 c κs = search needs
+
 ma-requires : tie.Need-ma-requires
 ma-requires c κs = search needs
 
-latched-requires : tie.Need-latched-requires
-latched-requires c κs = search needs
-
 returns : tie.Need-returns
 unfolding latchOf
-returns c = rw (c .before .ma .ensures) at (c .latched .ensures)
+returns c = rw (c .before .next2 .ensures, c .before .before .next .ensures) at (c .ma .ensures)
 
 pub latch-spec : {M : Type 1} → statement M
-latch-spec = tie.close (tie.spec ma-requires latched-requires returns)
+latch-spec = tie.close (tie.spec next-requires next-requires-2 ma-requires returns)

@@ -1,0 +1,95 @@
+-- The latch of a strike by where it falls: within a line, and on the lines of a row. Assumes nothing.
+use Prim.Native.Nat.{ℕ, _+_, _%_, _<_, _≤_}
+use mathlib.Core.Path.{_≡_, refl, ap, sym, _∙_}
+use mathlib.Core.Bool.{Bool, true, false}
+use native.Mathlib.Omega.{arith}
+use lib.Dec.{eqb}
+use borrow.Author.Tests.{eqb-true, eqb-false}
+use Rattle.basics.specs.Choice.{if_then_else_}
+use Rattle.basics.specs.Bits.{wordOf, highOf, lowOf}
+use Rattle.basics.specs.Width.{countedOf}
+use Rattle.basics.specs.declared.width.Width.the-variants.{Five, Eight}
+use Rattle.raster.specs.Registers.{reg, byRowsOf}
+use Rattle.raster.specs.Scan.{nextOf, alongOf}
+use Rattle.raster.specs.declared.registers.Registers.{Registers}
+use Rattle.raster.specs.declared.scan.Scan.{Scan}
+use Rattle.raster.proofs.Fields.{inField, next-field}
+use Rattle.raster.proofs.LineEnds.{next-along, next-down}
+use Rattle.facts.specs.Facts.{addressOf, maOf, latchOf}
+
+module _ (r : Registers) (s : Scan) where
+  -- the field has no part in it
+  pub latch-field : (f : ℕ) → latchOf r (inField f s) ≡ latchOf r s
+  unfolding latchOf maOf
+  latch-field f =
+      let p = next-field r s f in
+      let q = next-field r (nextOf r s) (p .0) in
+      ap (maOf r) (ap (nextOf r) (p .1) ∙ q .1)
+
+  module _ (within : s .column + 2 ≤ reg r 0) (narrow : s .column + 2 < 256) where
+    -- where the line goes on for two characters more: the address two columns on, whatever the line
+    pub latch-within : latchOf r s ≡ addressOf r (s .start) (s .base) (s .row) (s .column + 2)
+    unfolding latchOf maOf
+    latch-within =
+        let e : countedOf Eight (countedOf Eight (s .column) 1) 1 ≡ s .column + 2 = omega arith in
+        ap (maOf r) (ap (nextOf r) (next-along r s (omega arith)) ∙ next-along r (alongOf s) (omega arith))
+        ∙ ap (addressOf r (s .start) (s .base) (s .row)) e
+
+    -- and that is MA and 2, where addresses are counted on from the row's base
+    pub latch-linear : byRowsOf r ≡ false → latchOf r s ≡ (maOf r s + 2) % 16384
+    unfolding if_then_else_ addressOf maOf
+    latch-linear b = latch-within ∙ rw b (omega arith)
+
+-- two places in rows of one frame whose addresses two columns on are the same have the same address themselves
+pub two-back : (r : Registers) (start b c row other x y : ℕ)
+    → addressOf r start b row (x + 2) ≡ addressOf r start c other (y + 2) → addressOf r start b row x ≡ addressOf r start c other y
+unfolding if_then_else_ addressOf
+two-back r start b c row other x y = go (byRowsOf r)
+  where
+    go : (t : Bool)
+        → (if t then wordOf ((highOf start + row) % 64) ((lowOf start + (x + 2)) % 256) else (b + (x + 2)) % 16384)
+        ≡ (if t then wordOf ((highOf start + other) % 64) ((lowOf start + (y + 2)) % 256) else (c + (y + 2)) % 16384)
+        → (if t then wordOf ((highOf start + row) % 64) ((lowOf start + x) % 256) else (b + x) % 16384)
+        ≡ (if t then wordOf ((highOf start + other) % 64) ((lowOf start + y) % 256) else (c + y) % 16384)
+    go true e = omega arith
+    go false e = omega arith
+
+-- the lines of a row that are two or more before its last: none of them latches another row's address, so they latch alike
+module _ (r : Registers) where
+  -- another place in the row
+  abbrev inRow : Scan → (column line : ℕ) → Scan
+  inRow s column line = record {
+    column = column;
+    line = line;
+    row = s .row;
+    base = s .base;
+    start = s .start;
+    field = s .field;
+    adjusting = s .adjusting;
+  }
+
+  -- the column after a column
+  unfoldable turned : ℕ → ℕ
+  turned column = if eqb column (reg r 0) then 0 else countedOf Eight column 1
+
+  next-in-row : (s : Scan) → s .adjusting ≡ false → (s .line ≡ reg r 9 → ⊥)
+      → (l : ℕ) × (nextOf r s ≡ inRow s (turned (s .column)) l) × (l ≤ s .line + 1)
+  unfolding if_then_else_ turned
+  next-in-row s a n = go (eqb (s .column) (reg r 0)) refl
+    where
+      go : (t : Bool) → eqb (s .column) (reg r 0) ≡ t
+          → (l : ℕ) × (nextOf r s ≡ inRow s (if t then 0 else countedOf Eight (s .column) 1) l) × (l ≤ s .line + 1)
+      go true e = (countedOf Five (s .line) 1, next-down r s (eqb-true _ _ e) a n, omega arith)
+      go false e = (s .line, next-along r s (eqb-false _ _ e), omega arith)
+
+  latch-in-row : (s : Scan) → s .adjusting ≡ false → s .line + 2 ≤ reg r 9
+      → latchOf r s ≡ addressOf r (s .start) (s .base) (s .row) (turned (turned (s .column)))
+  unfolding latchOf maOf
+  latch-in-row s a h =
+      let p = next-in-row s a (omega arith) in
+      let q = next-in-row (inRow s (turned (s .column)) (p .0)) a (omega arith) in
+      ap (maOf r) (ap (nextOf r) (p .1) ∙ q .1)
+
+  pub latch-lines : (s : Scan) → s .adjusting ≡ false → (l m : ℕ) → l + 2 ≤ reg r 9 → m + 2 ≤ reg r 9
+      → latchOf r (inRow s (s .column) l) ≡ latchOf r (inRow s (s .column) m)
+  latch-lines s a l m h k = latch-in-row (inRow s (s .column) l) a h ∙ sym (latch-in-row (inRow s (s .column) m) a k)

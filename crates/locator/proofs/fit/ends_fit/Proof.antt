@@ -1,0 +1,87 @@
+-- The loop's invariant: the column to be struck is none of the front's, no more were met than there are, and the fit is that of the columns
+-- met so far. The measure is how many are left.
+use Prim.Native.Nat.{ℕ, _≤_, _-_}
+use mathlib.Core.Path.{_≡_, ap, ap₂, sym, _∙_}
+use mathlib.Core.Bool.{Bool}
+use native.Mathlib.Omega.{arith}
+use borrow.Author.Needs.{needs}
+use Rattle.locator.specs.Cells.{columnsOf, cellAt}
+use Rattle.locator.specs.private.Search.{joinedOf, oneFitOf, frontOf, partFitOf}
+use Rattle.locator.proofs.Fits.{no-more, one-more}
+use Rattle.locator.proofs.fit.ends_fit.Statement.{statement}
+use Rattle.locator.proofs.fit.ends_fit.Tie as tie
+
+abbrev Inv-loop : tie.InvT-loop
+Inv-loop r base latch row n best₀ x₀ best x = (frontOf r ≤ x) × (x ≤ n) × (best ≡ partFitOf r latch row (frontOf r) (x - frontOf r))
+
+abbrev μ-loop : tie.MeasureT-loop
+μ-loop r base latch row n best₀ x₀ best x = n - x
+
+columns-requires : tie.Need-columns-requires Inv-loop μ-loop
+columns-requires c κs = search needs
+
+front-requires : tie.Need-front-requires Inv-loop μ-loop
+front-requires c κs = search needs
+
+loop-holds : tie.Need-loop-holds Inv-loop μ-loop
+loop-holds c =
+    let a = c .before .before .args in
+    let none : c .front .result - frontOf (a .r) ≡ 0 = omega arith in (
+      omega arith,
+      omega arith,
+      sym (ap (partFitOf (a .r) (a .latch) (a .row) (frontOf (a .r))) none ∙ no-more (a .r) (a .latch) (a .row) (frontOf (a .r))),
+    )
+
+cell-fits-requires : tie.Need-cell-fits-requires Inv-loop μ-loop
+cell-fits-requires c κs = search needs
+
+one-fit-requires : tie.Need-one-fit-requires Inv-loop μ-loop
+one-fit-requires c κs = search needs
+
+join-requires : tie.Need-join-requires Inv-loop μ-loop
+join-requires c κs = search needs
+
+add-x : tie.Need-add-x Inv-loop μ-loop
+add-x c = omega arith
+
+loop-less : tie.Need-loop-less Inv-loop μ-loop
+loop-less c = omega arith
+
+loop-again : tie.Need-loop-again Inv-loop μ-loop
+loop-again c =
+    let fits = c .before .before in
+    let head = fits .before .before in
+    let l = head .loop in
+    let a = head .before .before .before .args in
+    let cell = cellAt (a .row) (l .x) in (
+      omega arith,
+      omega arith,
+      c .join .ensures
+          ∙ ap₂ joinedOf (l .inv .2) (c .before .one-fit .ensures ∙ ap (λ (b : Bool). oneFitOf b cell) (fits .cell-fits .ensures))
+          ∙ sym (one-more (a .r) (a .latch) (a .row) (frontOf (a .r)) (l .x) (l .inv .0)),
+    )
+
+returns : tie.Need-returns Inv-loop μ-loop
+returns c =
+    let head = c .before in
+    let l = head .loop in
+    let a = head .before .before .before .args in
+    let e : l .x ≡ columnsOf (a .r) = omega arith in
+    l .inv .2 ∙ ap (λ (x : ℕ). partFitOf (a .r) (a .latch) (a .row) (frontOf (a .r)) (x - frontOf (a .r))) e
+
+pub ends-fit-spec : {M : Type 1} → statement M
+ends-fit-spec =
+    tie.close
+    (tie.spec
+    Inv-loop
+    μ-loop
+    columns-requires
+    front-requires
+    loop-holds
+    cell-fits-requires
+    one-fit-requires
+    join-requires
+    add-x
+    loop-less
+    loop-again
+    returns)
