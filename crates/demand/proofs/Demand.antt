@@ -1,6 +1,6 @@
 -- Demand 3, proved. Assumes nothing.
-use Prim.Native.Nat.{ℕ, _<_}
-use mathlib.Core.Path.{_≡_, refl, ap, ap₂, _∙_}
+use Prim.Native.Nat.{ℕ, _+_, _<_, _≤_}
+use mathlib.Core.Path.{_≡_, refl, ap, ap₂, sym, _∙_}
 use mathlib.Core.Bool.{Bool, true, false}
 use mathlib.Core.List.{List, [], _∷_, _++_, map}
 use mathlib.Core.Logic.{_⊎_, inl, inr, ⊎-elim}
@@ -28,9 +28,10 @@ use Rattle.locator.specs.Cells.{IsCell, cellAt, fitsOf, fitOf}
 use Rattle.locator.specs.Locate.{refusalOf, cellOf, namedOf, strikeFoundOf, locateOf}
 use Rattle.locator.specs.declared.cells.Cell.{Cell}
 use Rattle.locator.specs.declared.answer.Located.the-variants.{At, Unstruck, Outside, Several}
+use Rattle.locator.proofs.Columns.{same-address}
 use Rattle.locator.proofs.Listed.{found, several}
 use Rattle.locator.proofs.Locating.{locate-alike, locate-none, locate-newest, found-inside, found-outside, picture-cell, own-fits, same-or-other}
-use Rattle.demand.specs.Demand.{struckAt, answerTo, Rival, Demand3, Demand3Reached}
+use Rattle.demand.specs.Demand.{struckAt, answerTo, Rival, OneCellEach, Demand3, Demand3Reached}
 
 -- clocks and reads leave what the locator goes by: the registers, and of the pen all but L
 clock-answer : (n : ℕ) (c : Controller) → locateOf (clockOf n c) ≡ locateOf c
@@ -100,7 +101,7 @@ module _ (c : Controller) (w : RegistersWithin (c .regs)) where
       is-cell = picture-cell r s e (region .1) (frames c w .placed before .column)
 
       fits : fitsOf r (latchOf r s) cell ≡ true
-      fits = own-fits r s (frames c w .placed before .start) (region .2)
+      fits = own-fits r s (in-picture r s e .running) (region .0) (frames c w .placed before .start) (region .2)
 
       named-alone : ((d : Cell) → Rival c s d → ⊥) → answerTo c before more ≡ At cell
       named-alone u =
@@ -109,6 +110,16 @@ module _ (c : Controller) (w : RegistersWithin (c .regs)) where
 
       rivalled : (d : Cell) → Rival c s d → answerTo c before more ≡ Several
       rivalled d v = struck-inside ∙ several r narrow (latchOf r s) cell is-cell fits d (v .cell) (v .fits) (v .other)
+
+      -- where the picture ends before the line's last two characters, a rival has the struck cell's address
+      no-rival : reg r 1 + 1 ≤ reg r 0 → OneCellEach r → (d : Cell) → Rival c s d → ⊥
+      no-rival h one d v =
+          v .other
+          (one d cell (v .cell) is-cell
+          (same-address r (latchOf r s) d cell (omega (arith, v .cell .column<)) (omega (arith, is-cell .column<)) narrow (v .fits) fits))
+
+      never-8 : reg r 1 + 1 ≤ reg r 0 → OneCellEach r → refusalOf (answerTo c before more) ≡ 8 → ⊥
+      never-8 h one z = let q : _≡_ {A = ℕ} 0 8 = sym (ap refusalOf (named-alone (no-rival h one))) ∙ z in omega arith
 
   unstruck : (more : List Wait) → locateOf (afterActs (map waits more) (resetOf c)) ≡ Unstruck
   unstruck more = after-waits more (resetOf c) ∙ locate-none (resetOf c) (ap holdsOf (reset-pen c) ∙ none-holds)
@@ -120,6 +131,7 @@ module _ (c : Controller) (w : RegistersWithin (c .regs)) where
     unstruck = λ more. ap refusalOf (unstruck more);
     named = λ before more e u. let q = named-alone before more e u in (ap refusalOf q, ap cellOf q);
     shared = λ before more e d v. ap refusalOf (rivalled before more e d v);
+    unshared = λ h one before more e. never-8 before more e h one;
     outside = λ before more e. ap refusalOf (struck-outside before more e);
   }
 

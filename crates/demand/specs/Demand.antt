@@ -1,16 +1,19 @@
 -- Demand 3, whole, of the real controller's calls: a reset, then character clocks, reads and pen strikes in any order, then a locate. No
--- register is written in between (document 01, "One character time", "The locator" and the table of refusals).
+-- register is written in between (document 01, "One character time", "The locator" and the table of refusals, and request W5).
+use Prim.Native.Nat.{_+_, _≤_}
 use mathlib.Core.Path.{_≡_}
 use mathlib.Core.Bool.{true, false}
 use mathlib.Core.List.{List, _∷_, _++_, map}
 use mathlib.Core.Logic.{_⊎_}
 use Rattle.facts.specs.Facts.{pictureOf, latchOf}
+use Rattle.raster.specs.Registers.{reg}
+use Rattle.raster.specs.declared.registers.Registers.{Registers}
 use Rattle.raster.specs.declared.scan.Scan.{Scan}
 use Rattle.controller.specs.Chip.{freshOf, resetOf}
 use Rattle.frames.specs.Calls.{Call, afterCalls, Wait, Act, waits, strikes, afterActs}
 use Rattle.frames.specs.Frames.{Frames}
 use Rattle.controller.specs.declared.chip.Controller.{Controller}
-use Rattle.locator.specs.Cells.{IsCell, cellAt, fitsOf}
+use Rattle.locator.specs.Cells.{IsCell, cellAt, cellAddressOf, fitsOf}
 use Rattle.locator.specs.Locate.{refusalOf, cellOf, locateOf}
 use Rattle.locator.specs.declared.cells.Cell.{Cell}
 use Rattle.locator.specs.declared.answer.Located.{Located}
@@ -23,11 +26,15 @@ struckAt c before = afterActs before (resetOf c) .scan
 abbrev pub answerTo : Controller → List Act → List Wait → Located
 answerTo c before more = locateOf (afterActs (before ++ strikes ∷ map waits more) (resetOf c))
 
--- another picture cell would leave the same latch as a strike at s
+-- another picture cell fits the latch of a strike at s: struck on one of its lines, it would leave the same
 pub record Rival (c : Controller) (s : Scan) (d : Cell) : Type 0 where
   pub cell : IsCell (c .regs) d
   pub fits : fitsOf (c .regs) (latchOf (c .regs) s) d ≡ true
   pub other : d ≡ cellAt (s .row) (s .column) → ⊥
+
+-- no two cells of the picture have one address
+abbrev pub OneCellEach : Registers → Type 0
+OneCellEach r = (c d : Cell) → IsCell r c → IsCell r d → cellAddressOf r c ≡ cellAddressOf r d → c ≡ d
 
 -- the demand, sentence by sentence. Refusals stand by their numbers, and a located strike by its cell.
 pub record Demand3 (c : Controller) : Type 0 where
@@ -50,6 +57,11 @@ pub record Demand3 (c : Controller) : Type 0 where
       → pictureOf (c .regs) (struckAt c before) ≡ true
       → (d : Cell) → Rival c (struckAt c before) d
       → refusalOf (answerTo c before more) ≡ 8
+  -- it fell in the picture, R1 is at most R0 - 1, and no two cells have one address: never refused with 8
+  pub unshared : reg (c .regs) 1 + 1 ≤ reg (c .regs) 0 → OneCellEach (c .regs)
+      → (before : List Act) (more : List Wait)
+      → pictureOf (c .regs) (struckAt c before) ≡ true
+      → refusalOf (answerTo c before more) ≡ 8 → ⊥
   -- it fell outside the picture: refused with 6, though a cell may share the address
   pub outside : (before : List Act) (more : List Wait)
       → pictureOf (c .regs) (struckAt c before) ≡ false

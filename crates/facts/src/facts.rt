@@ -60,7 +60,9 @@ pub fn ma(r: Registers, s: Scan) -> u16
 pub fn latch(r: Registers, s: Scan) -> u16
     ensures { λ a. ⌜ a ≡ latchOf r s ⌝ }
 {
-    ma(r, s.next(r).next(r))
+    let next = s.next(r);
+    let there = next.next(r);
+    ma(r, there)
 }
 
 // Whether the cursor's blink shows it, by R10 and the field.

@@ -1,6 +1,6 @@
 -- The premises of demand 3, met by settled cases. Assumes nothing.
-use Prim.Native.Nat.{ℕ}
-use mathlib.Core.Path.{_≡_, refl, ap, sym, _∙_}
+use Prim.Native.Nat.{ℕ, _+_, _*_, _/_, _%_, _≤_, _<_}
+use mathlib.Core.Path.{_≡_, refl, ap, ap₂, sym, _∙_}
 use mathlib.Core.Bool.{true}
 use mathlib.Core.List.{[]}
 use native.Mathlib.Omega.{arith}
@@ -15,10 +15,10 @@ use Rattle.pen.specs.Pen.{noPen, struckOf, emptiedOf, holdsOf, newestOf, unread
 use Rattle.controller.specs.Reads.{afterReadOf, registerReadOf, readOf}
 use Rattle.controller.specs.Writes.{addressedOf, storedOf, writtenOf}
 use Rattle.frames.specs.Calls.{afterCall, afterCalls, afterWait, afterAct, afterActs}
-use Rattle.locator.specs.Cells.{cellsFrom, cellLatchOf, fitsOf, keep, theFit, fitOf}
+use Rattle.locator.specs.Cells.{IsCell, cellAt, cellsFrom, cellAddressOf, cellLatchOf, anyOf, fitsOf, keep, theFit, fitOf}
 use Rattle.locator.specs.Locate.{refusalOf, namedOf, strikeFoundOf, locateOf}
 use Rattle.locator.specs.declared.cells.Cell.{Cell}
-use Rattle.demand.specs.Demand.{struckAt, answerTo, Rival}
+use Rattle.demand.specs.Demand.{struckAt, answerTo, Rival, OneCellEach}
 use Rattle.demand.proofs.Demand.{demand3-reached}
 use Rattle.settled.specs.Cases as cases
 use Rattle.settled.specs.Cases.{writesOf, inA}
@@ -26,7 +26,7 @@ use Rattle.settled.specs.Premises.{A, waited, Premises}
 
 -- case d is answered with a cell
 d-number : refusalOf (answerTo A (waited 1) []) ≡ 0
-unfolding if_then_else_ iterate lineEndOf moveOf movedOf nextOf pictureOf addressOf maOf latchOf arrivedOf freshOf resetOf writeOf stepOf clockOf strikeOf addressedOf storedOf writtenOf afterCall afterCalls afterWait afterAct afterActs count cellsFrom cellLatchOf fitsOf keep theFit fitOf namedOf strikeFoundOf locateOf noPen struckOf holdsOf newestOf cases.writtenOf
+unfolding if_then_else_ iterate lineEndOf moveOf movedOf nextOf pictureOf addressOf maOf latchOf arrivedOf freshOf resetOf writeOf stepOf clockOf strikeOf addressedOf storedOf writtenOf afterCall afterCalls afterWait afterAct afterActs count cellsFrom cellLatchOf anyOf fitsOf keep theFit fitOf namedOf strikeFoundOf locateOf noPen struckOf holdsOf newestOf cases.writtenOf
 d-number = refl
 
 d-inside : pictureOf (A .regs) (struckAt A (waited 1)) ≡ true
@@ -39,14 +39,33 @@ unfolding cases.writtenOf
 d-alone d v =
     let e : _≡_ {A = ℕ} 0 8 = sym d-number ∙ demand3-reached (writesOf (inA 0 0)) .shared (waited 1) [] d-inside d v in absurd (omega arith)
 
+-- no two cells of setting A have one address, since an address of two columns to the row tells both
+told-apart : (a b x y : ℕ) → x < 2 → y < 2 → a * 2 + x ≡ b * 2 + y → (a ≡ b) × (x ≡ y)
+told-apart a b x y p q e =
+    let halves : (a * 2 + x) / 2 ≡ (b * 2 + y) / 2 = ap (λ (n : ℕ). n / 2) e in
+    let rows : a ≡ b = omega arith in (rows, omega arith)
+
+unwrapped : (a x : ℕ) → a ≤ 1 → x < 2 → ((0 + a * 2) % 16384 + x) % 16384 ≡ a * 2 + x
+unwrapped a x p q = omega arith
+
+one-each : OneCellEach (A .regs)
+unfolding if_then_else_ addressOf arrivedOf freshOf writeOf addressedOf storedOf writtenOf afterCall afterCalls cellAddressOf cases.writtenOf
+one-each c d i j e =
+    let q =
+    told-apart (c .row) (d .row) (c .column) (d .column) (i .column<) (j .column<)
+    (sym (unwrapped (c .row) (c .column) (i .row≤) (i .column<)) ∙ e ∙ unwrapped (d .row) (d .column) (j .row≤) (j .column<)) in
+    ap₂ cellAt (q .0) (q .1)
+
 pub premises : Premises
-unfolding if_then_else_ iterate lineEndOf moveOf movedOf nextOf pictureOf addressOf maOf latchOf arrivedOf freshOf resetOf writeOf stepOf clockOf strikeOf addressedOf storedOf writtenOf emptiedOf unreadOf struckOf noPen afterReadOf registerReadOf readOf afterCall afterCalls afterWait afterAct afterActs cellLatchOf fitsOf cases.writtenOf
+unfolding if_then_else_ iterate lineEndOf moveOf movedOf nextOf pictureOf addressOf maOf latchOf arrivedOf freshOf resetOf writeOf stepOf clockOf strikeOf addressedOf storedOf writtenOf emptiedOf unreadOf struckOf noPen afterReadOf registerReadOf readOf afterCall afterCalls afterWait afterAct afterActs count cellLatchOf anyOf fitsOf cases.writtenOf
 premises = record {
   inside = d-inside;
   alone = d-alone;
   outside = refl;
-  cell = record { row< = lit< tt; row≤ = lit< tt; column< = lit< tt; column≤ = omega arith };
+  cell = record { row< = lit< tt; row≤ = omega arith; column< = lit< tt; column≤ = omega arith };
   shares = refl;
+  short = omega arith;
+  one-each = one-each;
   inside-too = refl;
   rival = record {
     cell = record { row< = lit< tt; row≤ = lit< tt; column< = lit< tt; column≤ = lit< tt };

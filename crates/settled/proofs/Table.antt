@@ -17,17 +17,18 @@ use Rattle.controller.specs.Pins.{pinOf, outputsOf}
 use Rattle.frames.specs.Calls.{afterCall, afterCalls}
 use Rattle.frames.proofs.Frames.{frames}
 use Rattle.frames.proofs.Reached.{reached-within}
-use Rattle.locator.specs.Cells.{cellsFrom, cellLatchOf, fitsOf, keep, theFit, fitOf}
+use Rattle.locator.specs.Cells.{cellsFrom, cellLatchOf, anyOf, fitsOf, keep, theFit, fitOf}
 use Rattle.locator.specs.Locate.{namedOf, strikeFoundOf, locateOf}
 use Rattle.settled.specs.Cases as cases
 use Rattle.settled.specs.Cases.{writesOf, reachedOf, lookedOf, seenOf, cases, settled, Settled}
 
--- one row of the table, its case against what was settled. Each is shown by itself: h, i and j go over 16,000 cells each.
+-- one row of the table, its case against what was settled. Each of a to j is shown by itself, since h, i and j go over 16,000 cells each;
+-- k to z are small, and shown together.
 abbrev Row : ℕ → Type 0
 Row k = seenOf (getD cases k []) ≡ getD settled k []
 
 shown : map seenOf cases ≡ settled
-unfolding if_then_else_ iterate lineEndOf moveOf movedOf nextOf hsyncOf vsyncStartsOf vsyncWidthOf vsyncOf arriveOf pictureOf addressOf maOf latchOf blinkOf cursorLineOf cursorOf factsOf arrivedOf freshOf resetOf writeOf stepOf clockOf strikeOf addressedOf storedOf writtenOf pinOf outputsOf afterCall afterCalls count cellsFrom cellLatchOf fitsOf keep theFit fitOf namedOf strikeFoundOf locateOf noPen struckOf holdsOf newestOf cases.writtenOf reachedOf lookedOf seenOf
+unfolding if_then_else_ iterate lineEndOf moveOf movedOf nextOf hsyncOf vsyncStartsOf vsyncWidthOf vsyncOf arriveOf pictureOf addressOf maOf latchOf blinkOf cursorLineOf cursorOf factsOf arrivedOf freshOf resetOf writeOf stepOf clockOf strikeOf addressedOf storedOf writtenOf pinOf outputsOf afterCall afterCalls count cellsFrom cellLatchOf anyOf fitsOf keep theFit fitOf namedOf strikeFoundOf locateOf noPen struckOf holdsOf newestOf cases.writtenOf reachedOf lookedOf seenOf
 shown = a then b then c then d then e then f then g then h then i then j then refl
   where
     a : Row 0

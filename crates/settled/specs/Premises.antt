@@ -1,8 +1,9 @@
 -- Demand 3 promises nothing empty: each of its premises is met, by a settled case that register writes lead to from power-on.
-use Prim.Native.Nat.{ℕ, suc}
+use Prim.Native.Nat.{ℕ, suc, _+_, _≤_}
 use mathlib.Core.Path.{_≡_}
 use mathlib.Core.Bool.{true, false}
 use mathlib.Core.List.{List, [], _∷_}
+use Rattle.raster.specs.Registers.{reg}
 use Rattle.facts.specs.Facts.{pictureOf, latchOf}
 use Rattle.controller.specs.Chip.{freshOf, resetOf, writeOf}
 use Rattle.pen.specs.Pen.{unreadOf}
@@ -11,7 +12,7 @@ use Rattle.controller.specs.declared.chip.Controller.{Controller}
 use Rattle.frames.specs.Calls.{Call, afterCalls, clocks, reads, Act, waits, strikes, afterActs}
 use Rattle.locator.specs.Cells.{IsCell, cellAt, fitsOf}
 use Rattle.locator.specs.declared.cells.Cell.{Cell}
-use Rattle.demand.specs.Demand.{struckAt, Rival}
+use Rattle.demand.specs.Demand.{struckAt, Rival, OneCellEach}
 use Rattle.settled.specs.Cases.{put, writtenOf, inA, inTall}
 
 -- setting A, and the tall picture with R1 130, as written
@@ -47,13 +48,16 @@ pub record Premises : Type 0 where
   -- case d: a strike in the picture that no other cell rivals
   pub inside : pictureOf (A .regs) (struckAt A (waited 1)) ≡ true
   pub alone : (d : Cell) → Rival A (struckAt A (waited 1)) d → ⊥
-  -- case e: one outside it, and a cell that fits its latch, the one of case f
-  pub outside : pictureOf (A .regs) (struckAt A (waited 2)) ≡ false
-  pub cell : IsCell (A .regs) (cellAt 1 0)
-  pub shares : fitsOf (A .regs) (latchOf (A .regs) (struckAt A (waited 2))) (cellAt 1 0) ≡ true
+  -- after 7 clocks: one outside it, at the end of the first row, and a cell that fits its latch, the one of case d
+  pub outside : pictureOf (A .regs) (struckAt A (waited 7)) ≡ false
+  pub cell : IsCell (A .regs) (cellAt 0 1)
+  pub shares : fitsOf (A .regs) (latchOf (A .regs) (struckAt A (waited 7))) (cellAt 0 1) ≡ true
   -- case i: one in the picture that another cell rivals
   pub inside-too : pictureOf (Tall .regs) (struckAt Tall []) ≡ true
   pub rival : Rival Tall (struckAt Tall []) (cellAt 126 4)
+  -- setting A: R1 at most R0 - 1, and no two cells of one address
+  pub short : reg (A .regs) 1 + 1 ≤ reg (A .regs) 0
+  pub one-each : OneCellEach (A .regs)
   -- a read that changes something: L, which the strike set
   pub full : unreadOf (struck .pen) ≡ true
   pub emptied : unreadOf (struckAndRead .pen) ≡ false

@@ -5,10 +5,10 @@ use Rattle.cases.proofs.main.Statement.{statement}
 use Rattle.cases.proofs.main.Tie as tie
 
 abbrev Inv-loop : tie.InvT-loop
-Inv-loop i₀ i = i ≤ 10
+Inv-loop i₀ i = i ≤ 26
 
 abbrev μ-loop : tie.MeasureT-loop
-μ-loop i₀ i = 10 - i
+μ-loop i₀ i = 26 - i
 
 loop-holds : tie.Need-loop-holds Inv-loop μ-loop
 loop-holds c = search needs
