@@ -1,7 +1,7 @@
 //! Finding the screen cell that a pen strike hit.
 
-use crate::controller::address::{latched, Place};
-use crate::controller::{Controller, Registers};
+use crate::controller::counter::Counter;
+use crate::controller::{latched, Controller, Registers, Scan};
 use crate::refusal::Refusal;
 
 #[derive(Clone, Copy, PartialEq, Eq, Debug)]
@@ -18,8 +18,7 @@ pub fn locate(controller: &Controller) -> Result<ScreenCell, Refusal> {
         return Err(Refusal::StrikeOutsidePicture);
     }
     let registers = controller.registers();
-    let mut fitting =
-        cells(registers).filter(|cell| latched(cell_address(registers, *cell)) == strike.latch);
+    let mut fitting = cells(registers).filter(|cell| fits(registers, *cell, strike.latch));
     let found = fitting.next().ok_or(Refusal::NoCellFits)?;
     match fitting.next() {
         None => Ok(found),
@@ -40,16 +39,24 @@ fn cells(registers: &Registers) -> impl Iterator<Item = ScreenCell> + '_ {
     })
 }
 
-/// A cell's address by the registers as they stand now, not as some frame
-/// sampled them ("The locator", second sentence).
-fn cell_address(registers: &Registers, cell: ScreenCell) -> u16 {
-    let start = registers.start();
-    let rows_above = u32::from(cell.row) * u32::from(registers.columns_shown());
-    let place = Place {
-        start,
-        base: u32::from(start) + rows_above,
-        row: u16::from(cell.row),
-        column: u16::from(cell.column),
-    };
-    place.memory_address(registers.row_column_addressing())
+/// Whether a strike in the cell leaves this latch, tried on each of its lines 0
+/// to R9. On the last of them another row, the adjust lines or a new frame may
+/// follow within the two character times (request W5).
+fn fits(registers: &Registers, cell: ScreenCell, latch: u16) -> bool {
+    (0..=registers.last_line())
+        .any(|line| latched(registers, &scan_in(registers, cell, line)) == latch)
+}
+
+/// The scan standing in a cell on one of its lines, by the registers as they are
+/// now and not as some frame sampled them ("The locator", second sentence).
+fn scan_in(registers: &Registers, cell: ScreenCell, line: u8) -> Scan {
+    // Rows shown end at 126, so neither this product nor the sum below overflows.
+    let rows_above = u16::from(cell.row) * u16::from(registers.columns_shown());
+    Scan {
+        column: Counter::holding(u16::from(cell.column)),
+        line: Counter::holding(u16::from(line)),
+        row: Counter::holding(u16::from(cell.row)),
+        base: Counter::holding(registers.start() + rows_above),
+        ..Scan::fresh(registers)
+    }
 }

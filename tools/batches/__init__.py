@@ -6,7 +6,7 @@ from typing import NamedTuple
 
 from compared import COUNTS, CUTS, LISTING, ROOMS, SERIAL
 from compared.program import Program
-from . import controller, corners, cuts, mixed, multiplexer, rooms, serial, settings
+from . import controller, corners, cuts, line_ends, mixed, multiplexer, rooms, serial, settings
 from .seeds import FIXED_SEED
 
 
@@ -24,19 +24,21 @@ class Batch(NamedTuple):
 SHARES = {
     LISTING: {
         mixed.random_bytes: 4,
-        mixed.well_formed: 8,
+        mixed.well_formed: 7,
         mixed.nearly_well_formed: 4,
-        controller.pictures: 14,
-        controller.collisions: 7,
+        controller.pictures: 12,
+        controller.collisions: 6,
         controller.no_cell_fits: 4,
         controller.outside_the_picture: 4,
+        line_ends.full_pictures: 4,
+        line_ends.short_lines: 2,
         controller.register_reads: 2,
         controller.register_widths: 3,
         corners.greatest_counts: 2,
         corners.reloaded_pulses: 2,
         corners.late_pins: 3,
         corners.cursor_lines: 2,
-        multiplexer.multiplexer_work: 12,
+        multiplexer.multiplexer_work: 10,
         mixed.both_chips: 4,
         mixed.damaged: 4,
         mixed.cut_short: 3,

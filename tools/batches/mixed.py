@@ -2,7 +2,7 @@
 that it is given and from nothing else."""
 
 from records import GREATEST_FIELDS, MOST_BATCH_BYTES, RECORD_BYTES, counted, joined, record
-from . import controller, multiplexer
+from . import controller, line_ends, multiplexer
 
 
 def any_bytes(rng, length):
@@ -81,6 +81,7 @@ GOOD_SORTS = (
     controller.no_cell_fits,
     controller.outside_the_picture,
     controller.register_reads,
+    line_ends.full_pictures,
     multiplexer.multiplexer_work,
 )
 

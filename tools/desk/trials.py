@@ -36,7 +36,7 @@ def edges():
 
 
 STRIKE = bytes((4, 0, 0, 0))
-LATCHED, DONE = b"0400000200000000\n", b"0100000000000000\n"
+LATCHED, DONE = b"0400000000000000\n", b"0100000000000000\n"
 # Setting A in words and as bytes, and what is counted of it.
 A_IN_WORDS = b"R0 = 3; R1 = 2; R4 = 1; R5 = 1; R6 = 2; R9 = $01\n"
 A = bytes((3, 2, 0, 0, 1, 1, 2, 0, 0, 1, 0, 0, 0, 0, 0, 0))
@@ -95,7 +95,7 @@ cut 7 00
     call again with the rest, with 8 bytes of room at least: 00
 cut 8 00
     ended with 0: no whole record is left; 1 of 1 byte taken; nothing held
-    04000000  0400000200000000  strike: latch $0002, outside the picture
+    04000000  0400000000000000  strike: latch $0000, outside the picture
     0 of 8 output bytes stayed as they were
 close
     ended with 0: the line is closed, and no byte was held
@@ -107,7 +107,7 @@ OFF_A_LINE = (
     Trial(("serial", "-"), 0, LATCHED + b"end 3\n", ("09 00", "2 of a record's 4"), given=STRIKE + b"\x09\0"),
     Trial(("serial", "-"), 0, b"end 0\n", ("it has no record",)),
     Trial(("serial", "long.bin"), 0, 5000 * LATCHED + b"end 0\n", (), {"long.bin": 5000 * STRIKE}),
-    Trial(("serial", "--explain", "cut.bin"), 0, b"04000000  0400000200000000  strike: latch $0002, outside the picture\n"
+    Trial(("serial", "--explain", "cut.bin"), 0, b"04000000  0400000000000000  strike: latch $0000, outside the picture\n"
           b"          end 3             the last bytes, 09, are 1 of a record's 4: the file was cut, or a byte is missing or too many "
           b"somewhere before. All whole records are answered.\n", (), {"cut.bin": STRIKE + b"\x09"}),
     Trial(("serial", "good.batch"), 2, b"", ("good.batch", "bytes are read here", "bytes FILE | "), {"good.batch": b"strike\n"}),
@@ -129,7 +129,7 @@ OFF_A_LINE = (
 )
 
 TRIALS = (
-    Trial(("listing", "good.batch"), 0, LATCHED + b"end 0\n", (), {"good.batch": b"strike  # latch 2\r\n"}),
+    Trial(("listing", "good.batch"), 0, LATCHED + b"end 0\n", (), {"good.batch": b"strike  # latch 0\r\n"}),
     Trial(("listing", "good.hex"), 0, LATCHED + b"end 0\n", (), {"good.hex": b"\xef\xbb\xbf0400 # a part\n0000"}),
     Trial(("listing", "good.bin"), 0, LATCHED + b"end 0\n", (), {"good.bin": STRIKE}),
     Trial(("listing", "--as", "bytes", "good.txt"), 0, LATCHED + b"end 0\n", (), {"good.txt": STRIKE}),
@@ -148,7 +148,7 @@ TRIALS = (
     Trial(("listing", "long.bin"), 0, b"too long\n", ("5,000 bytes", "4,096", "1,024 records", "fresh"), {"long.bin": bytes(5000)}),
     Trial(("rooms", "8", "two.batch"), 0, b"0400040001000000\n" + LATCHED, (), {"two.batch": b"strike; strike\n"}),
     Trial(("rooms", "8", "cut.batch"), 0, b"0400040001000000\n" + LATCHED, (), {"cut.batch": b"strike; strike; bytes 09\n"}),
-    Trial(("explain", "GOOD.BATCH"), 0, b"04000000  0400000200000000  strike: latch $0002, outside the picture\n"
+    Trial(("explain", "GOOD.BATCH"), 0, b"04000000  0400000000000000  strike: latch $0000, outside the picture\n"
           b"          end 0             every record was answered\n", (), {"GOOD.BATCH": b"strike\n"}),
     Trial(("listing", "kept.batch"), 0, 3 * DONE + b"0200013f00000000\n" + 3 * DONE + b"020001ff00000000\nend 0\n", (),
           {"kept.batch": b"R14 = $FF; read R14; R15 = $FF; read R15\n"}),

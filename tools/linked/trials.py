@@ -1,7 +1,7 @@
 """The batches that go through C and through the listing: the same ones in every run, of records that the host program does."""
 import random
 
-from batches import controller
+from batches import controller, line_ends
 from batches.multiplexer import MODE_BITS, RATE_BITS, SIZE_BITS, control_number
 from records import (
     CONTROL_BITS, clocks, control, fetches, get, joined, locate, put, reset_controller, reset_multiplexer, status, strike,
@@ -79,6 +79,7 @@ MAKERS = (
     every_character, every_field, every_strike, every_mode, any_control,
     controller.pictures, controller.pictures, controller.pictures,
     controller.collisions, controller.no_cell_fits, controller.outside_the_picture, controller.register_widths, controller.register_reads,
+    line_ends.full_pictures, line_ends.short_lines,
 )
 
 

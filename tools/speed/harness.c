@@ -156,10 +156,13 @@ static int compare_clocks(const char *row, const u8 wanted[16])
 }
 
 /* A strike after that many character times, located on both sides. */
-static int compare_locates(const char *row, const u8 wanted[16], u16 time)
+static int compare_locates(const char *row, const u8 wanted[16], unsigned long time)
 {
     reset_with(wanted);
-    chip = controller_strike(controller_clock(chip, time));
+    unsigned long left = time;
+    for (; left > CALL; left -= CALL)
+        chip = controller_clock(chip, CALL);
+    chip = controller_strike(controller_clock(chip, left));
     locate_proved();
     locate_rust();
     return differs(row, time, same_cell(cells[RUST], cells[PROVED]));
@@ -220,14 +223,22 @@ static const struct { const char *row; u8 held[HELD]; double times; } frames[] =
 enum { COUNTED = sizeof frames / sizeof frames[0] };
 
 /*
- * The largest picture, in either way of addressing: from row to row, and by row and column. Its addresses go round almost twice: one
- * strike has a cell of its own, the other shares its address.
+ * The largest picture, in either way of addressing: from row to row, and by row and column. Its addresses go round almost twice: a strike
+ * in row 10 shares its latch, one in row 63 has a cell of its own. The same up to the line's last character, and a text screen.
  */
-static const struct { const char *row; u8 held[HELD]; } pictures[] = {
-    {"locate", {255, 255, 0, 0, 127, 0, 127}},
-    {"locate-by-rows", {255, 255, 0, 0, 127, 0, 127, 0, 4}},
+static const struct { const char *row; u8 held[HELD]; unsigned rows[2]; } pictures[] = {
+    {"locate", {255, 255, 0, 0, 127, 0, 127, 0, 0, 31}, {10, 63}},
+    {"locate-by-rows", {255, 255, 0, 0, 127, 0, 127, 0, 4, 31}, {10, 63}},
+    {"locate-full", {254, 255, 0, 0, 127, 0, 127, 0, 0, 31}, {10, 63}},
+    {"locate-screen", {63, 40, 50, 0x28, 31, 6, 25, 28, 0, 7}, {0, 10}},
 };
-enum { PICTURES = sizeof pictures / sizeof pictures[0], ALONE = 63 * 256 + 135, SHARED = 10 * 256 + 20 };
+enum { PICTURES = sizeof pictures / sizeof pictures[0], COLUMN = 20 };
+
+/* Character times from a reset to that column of a row's first line. */
+static unsigned long time_to(const u8 setting[HELD], unsigned row)
+{
+    return (unsigned long)row * (setting[9] + 1) * (setting[0] + 1) + COLUMN;
+}
 
 /* The two display modes, by the control bits V2 V1 V0. */
 static const struct mode mode_000 = {1, 12}, mode_001 = {3, 1};
@@ -243,8 +254,10 @@ int main(void)
     }
     for (int k = 0; k < PICTURES; k++) {
         const char *row = pictures[k].row;
-        if (compare_locates(row, pictures[k].held, SHARED) || compare_locates(row, pictures[k].held, ALONE))
-            return 1;
+        const u8 *setting = pictures[k].held;
+        for (int strike = 0; strike < 2; strike++)
+            if (compare_locates(row, setting, time_to(setting, pictures[k].rows[strike])))
+                return 1;
         measure(row, locates, 1);
     }
     if (compare_fetches("fetch-000", 0, mode_000))

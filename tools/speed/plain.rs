@@ -1,4 +1,5 @@
-//! Document 01's rules stepped plainly in Rust: a character time, a display fetch, a search over the picture's cells.
+//! The rules of document 01 and request W5 stepped plainly in Rust: a character time, a display fetch, a search over the picture's cells
+//! and their lines.
 //! It stands on no library, so that it can be compiled for x86-64 on any machine.
 #![no_std]
 
@@ -87,6 +88,32 @@ impl Scan {
             self.adjusting = true;
         }
     }
+
+    fn step(&mut self, r: &Registers) {
+        if self.column != r[0] {
+            self.column = self.column.wrapping_add(1);
+        } else {
+            self.column = 0;
+            self.next_line(r);
+        }
+    }
+
+    /// MA.
+    fn address(&self, r: &Registers) -> u32 {
+        let column = u32::from(self.column);
+        if r[8] / 4 % 2 == 1 {
+            let (high, low) = (u32::from(self.start / 256), u32::from(self.start % 256));
+            return 256 * ((high + u32::from(self.row)) % 64) + (low + column) % 256;
+        }
+        (u32::from(self.base) + column) % 16384
+    }
+
+    /// What a strike here latches: MA two character times on.
+    fn latch(mut self, r: &Registers) -> u32 {
+        self.step(r);
+        self.step(r);
+        self.address(r)
+    }
 }
 
 impl Sync {
@@ -109,12 +136,7 @@ impl Sync {
 
 impl Place {
     fn step(&mut self, r: &Registers) {
-        if self.scan.column != r[0] {
-            self.scan.column = self.scan.column.wrapping_add(1);
-        } else {
-            self.scan.column = 0;
-            self.scan.next_line(r);
-        }
+        self.scan.step(r);
         self.sync.arrive(&self.scan, r);
     }
 }
@@ -130,34 +152,35 @@ pub extern "C" fn rust_clock(at: &mut Place, held: &Registers, n: u32) {
     *at = p;
 }
 
-fn cell_address(r: &Registers, row: u32, column: u32) -> u32 {
-    let (high, low) = (u32::from(r[12]), u32::from(r[13]));
-    if r[8] / 4 % 2 == 1 {
-        return 256 * ((high + row) % 64) + (low + column) % 256;
-    }
-    (256 * high + low + row * u32::from(r[1]) + column) % 16384
-}
-
 fn shown_of(shown: u8, last: u8) -> u32 {
     u32::from(shown).min(u32::from(last) + 1)
 }
 
-/// The cells that fit a picture strike's latch, looked for in every cell.
+/// Whether a strike in a cell leaves a latch, on one of its lines. The scan is at the cell's first.
+fn fits(r: &Registers, cell: Scan, latch: u32) -> bool {
+    (0..=r[9]).any(|line| Scan { line, ..cell }.latch(r) == latch)
+}
+
+/// The cells that fit a picture strike's latch, looked for on every line of every cell.
 #[no_mangle]
 pub extern "C" fn rust_locate(out: &mut Found, held: &Registers, latch: u32) {
     let r = *held;
     let (rows, columns) = (shown_of(r[6], r[4]), shown_of(r[1], r[0]));
     let mut found = Found { refusal: 7, row: 0, column: 0 };
-    let mut fits = 0;
+    let mut fitting = 0;
+    let start = 256 * u16::from(r[12]) + u16::from(r[13]);
     for row in 0..rows {
+        let base = ((u32::from(start) + row * u32::from(r[1])) % 16384) as u16;
         for column in 0..columns {
-            if (cell_address(&r, row, column) + 2) % 16384 == latch {
-                fits += 1;
-                found = Found { refusal: 0, row: row as u8, column: column as u8 };
+            let (row, column) = (row as u8, column as u8);
+            let cell = Scan { column, line: 0, row, base, start, field: 0, adjusting: false };
+            if fits(&r, cell, latch) {
+                fitting += 1;
+                found = Found { refusal: 0, row, column };
             }
         }
     }
-    *out = if fits > 1 { Found { refusal: 8, row: 0, column: 0 } } else { found };
+    *out = if fitting > 1 { Found { refusal: 8, row: 0, column: 0 } } else { found };
 }
 
 impl Counted {

@@ -9,6 +9,8 @@ ROWS = [
     ("clock-0", "a character time, all registers 0"),
     ("locate", "locating a strike in the largest picture (2)"),
     ("locate-by-rows", "the same, by row and column (2)"),
+    ("locate-full", "the same, up to the line's end (2)"),
+    ("locate-screen", "locating a strike on a text screen (5)"),
     ("fetch-000", "a display fetch, mode 000"),
     ("fetch-001", "a display fetch, mode 001"),
     ("count-largest", "a character time counted, largest frame (4)"),
@@ -65,10 +67,11 @@ def notes(made):
         "Times in nanoseconds, best of several. A ratio above 1: the proved code is faster than Rust.",
         "Both sides came to the same results before they were timed.",
         "(1) R1 40, R2 50, R3 28 hex, R4 38, R6 25, R7 30, R9 7, others 0",
-        "(2) R0 255, R1 255, R4 127, R6 127, others 0, by row and column R8 4; the Rust side looks at all 127 x 255 cells",
+        "(2) R0 255, R1 255, R4 127, R6 127, R9 31, others 0; by row and column R8 4; up to the line's end R0 254; the Rust side strikes",
+        "    all 127 x 255 cells, each on its 32 lines",
         f"(3) a batch of {RECORDS:,} records of {CLOCKS:,} clocks, all registers 0; beside it, as Rust, the second program",
         "(4) a report of 64 settings of the largest frame, 67,616,768 character times",
-        "(5) a report of 64 settings of 40 columns and 25 rows, R0 63",
+        "(5) 40 columns and 25 rows of 8 lines, R0 63: one strike, or a report of 64 such settings",
     ]
 
 

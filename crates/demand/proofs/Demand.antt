@@ -29,7 +29,7 @@ use Rattle.locator.specs.Locate.{refusalOf, cellOf, namedOf, strikeFoundOf, loc
 use Rattle.locator.specs.declared.cells.Cell.{Cell}
 use Rattle.locator.specs.declared.answer.Located.the-variants.{At, Unstruck, Outside, Several}
 use Rattle.locator.proofs.Columns.{same-address}
-use Rattle.locator.proofs.Listed.{found, several}
+use Rattle.locator.proofs.Listed.{found, several, somewhere}
 use Rattle.locator.proofs.Locating.{locate-alike, locate-none, locate-newest, found-inside, found-outside, picture-cell, own-fits, same-or-other}
 use Rattle.demand.specs.Demand.{struckAt, answerTo, Rival, OneCellEach, Demand3, Demand3Reached}
 
@@ -111,6 +111,9 @@ module _ (c : Controller) (w : RegistersWithin (c .regs)) where
       rivalled : (d : Cell) → Rival c s d → answerTo c before more ≡ Several
       rivalled d v = struck-inside ∙ several r narrow (latchOf r s) cell is-cell fits d (v .cell) (v .fits) (v .other)
 
+      never-7 : refusalOf (answerTo c before more) ≡ 7 → ⊥
+      never-7 z = somewhere r narrow (latchOf r s) cell is-cell fits (sym (ap refusalOf struck-inside) ∙ z)
+
       -- where the picture ends before the line's last two characters, a rival has the struck cell's address
       no-rival : reg r 1 + 1 ≤ reg r 0 → OneCellEach r → (d : Cell) → Rival c s d → ⊥
       no-rival h one d v =
@@ -131,6 +134,7 @@ module _ (c : Controller) (w : RegistersWithin (c .regs)) where
     unstruck = λ more. ap refusalOf (unstruck more);
     named = λ before more e u. let q = named-alone before more e u in (ap refusalOf q, ap cellOf q);
     shared = λ before more e d v. ap refusalOf (rivalled before more e d v);
+    fitting = λ before more e. never-7 before more e;
     unshared = λ h one before more e. never-8 before more e h one;
     outside = λ before more e. ap refusalOf (struck-outside before more e);
   }

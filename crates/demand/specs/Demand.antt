@@ -57,11 +57,15 @@ pub record Demand3 (c : Controller) : Type 0 where
       → pictureOf (c .regs) (struckAt c before) ≡ true
       → (d : Cell) → Rival c (struckAt c before) d
       → refusalOf (answerTo c before more) ≡ 8
+  -- it fell in the picture: its own cell fits, so it is never refused with 7
+  pub fitting : (before : List Act) (more : List Wait)
+      → pictureOf (c .regs) (struckAt c before) ≡ true
+      → (refusalOf (answerTo c before more) ≡ 7 → ⊥)
   -- it fell in the picture, R1 is at most R0 - 1, and no two cells have one address: never refused with 8
   pub unshared : reg (c .regs) 1 + 1 ≤ reg (c .regs) 0 → OneCellEach (c .regs)
       → (before : List Act) (more : List Wait)
       → pictureOf (c .regs) (struckAt c before) ≡ true
-      → refusalOf (answerTo c before more) ≡ 8 → ⊥
+      → (refusalOf (answerTo c before more) ≡ 8 → ⊥)
   -- it fell outside the picture: refused with 6, though a cell may share the address
   pub outside : (before : List Act) (more : List Wait)
       → pictureOf (c .regs) (struckAt c before) ≡ false

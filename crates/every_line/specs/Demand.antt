@@ -1,6 +1,6 @@
 -- Demand 3 over the joined records (document 02, W3): records off the line that reset the controller, then clock it, read it and fire the
 -- pen, then locate, in whatever cuts they came. proofs/Demand.antt shows it.
-use Prim.Native.Nat.{ℕ, suc, _+_}
+use Prim.Native.Nat.{ℕ, suc, _+_, _≤_}
 use mathlib.Core.Bool.{true, false}
 use mathlib.Core.List.{List, [], _∷_, _++_, map}
 use mathlib.Core.Logic.{_⊎_}
@@ -8,13 +8,14 @@ use mathlib.Core.Path.{_≡_}
 use lib.ListN.{length}
 use Rattle.answer.specs.declared.Answer.{Answer}
 use Rattle.answer.specs.Answer.{doneOf, plainOf}
+use Rattle.raster.specs.Registers.{reg}
 use Rattle.facts.specs.Facts.{pictureOf}
 use Rattle.controller.specs.Chip.{freshOf}
 use Rattle.controller.specs.declared.chip.Controller.{Controller}
 use Rattle.frames.specs.Calls.{Call, read, clock, strike, afterCalls, Wait, clocks, reads, Act, waits, strikes}
 use Rattle.frames.specs.Frames.{Frames}
 use Rattle.locator.specs.declared.cells.Cell.{Cell}
-use Rattle.demand.specs.Demand.{struckAt, Rival}
+use Rattle.demand.specs.Demand.{struckAt, Rival, OneCellEach}
 use Rattle.record.specs.Decode.{decodeOf}
 use Rattle.every_record.specs.Calls.{callsOf}
 use Rattle.line.specs.Line.{freshLine}
@@ -57,6 +58,10 @@ pub record Answer3 (c : Controller) (acts : List Act) (answer : Answer) : Type 0
   -- in the picture, and another picture cell would: refused with 8
   pub shared : (before : List Act) (more : List Wait) → acts ≡ before ++ strikes ∷ map waits more
       → pictureOf (c .regs) (struckAt c before) ≡ true → (d : Cell) → Rival c (struckAt c before) d → answer ≡ plainOf 9 8
+  -- in the picture, R1 at most R0 - 1, and no two cells of one address: not refused with 8
+  pub unshared : reg (c .regs) 1 + 1 ≤ reg (c .regs) 0 → OneCellEach (c .regs)
+      → (before : List Act) (more : List Wait) → acts ≡ before ++ strikes ∷ map waits more
+      → pictureOf (c .regs) (struckAt c before) ≡ true → (answer ≡ plainOf 9 8 → ⊥)
   -- outside the picture: refused with 6, though a cell may share the address
   pub outside : (before : List Act) (more : List Wait) → acts ≡ before ++ strikes ∷ map waits more
       → pictureOf (c .regs) (struckAt c before) ≡ false → answer ≡ plainOf 9 6

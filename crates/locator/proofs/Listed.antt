@@ -13,7 +13,7 @@ use Rattle.raster.specs.Registers.{reg}
 use Rattle.raster.specs.declared.registers.Registers.{Registers}
 use Rattle.basics.proofs.Counting.{mem-count, count-mem}
 use Rattle.locator.specs.Cells.{IsCell, columnsOf, rowsOf, cellAt, rowCells, cellsFrom, cellsOf, fitsOf, keep, theFit, fitOf}
-use Rattle.locator.specs.Locate.{namedOf}
+use Rattle.locator.specs.Locate.{refusalOf, namedOf}
 use Rattle.locator.specs.declared.answer.Located.the-variants.{At, Several}
 use Rattle.locator.specs.declared.cells.Cell.{Cell}
 use Rattle.locator.specs.declared.fit.Fit.the-variants.{One, Many}
@@ -129,6 +129,13 @@ two-several c d [] m n u = absurd (List·Memᴰ·not-nil m)
 two-several c d (e ∷ []) m n u = absurd (u (List·Memᴰ·eq-of-singleton n ∙ sym (List·Memᴰ·eq-of-singleton m)))
 two-several c d (e ∷ f ∷ l) m n u = refl
 
+-- and never none where one is in it
+not-nowhere : (c : Cell) (l : List Cell) → List·Memᴰ c l → refusalOf (namedOf (theFit l)) ≡ 7 → ⊥
+unfolding theFit namedOf
+not-nowhere c [] m e = List·Memᴰ·not-nil m
+not-nowhere c (d ∷ []) m e = omega arith
+not-nowhere c (d ∷ f ∷ l) m e = omega arith
+
 -- Of the cells that fit a latch: the one where no other does, several where another does. The proofs hold for any test, so that a change of
 -- what fits changes nothing here.
 module _ (r : Registers) (narrow : reg r 0 < 256) (latch : ℕ) (c : Cell) (i : IsCell r c) (e : fitsOf r latch c ≡ true) where
@@ -147,3 +154,7 @@ module _ (r : Registers) (narrow : reg r 0 < 256) (latch : ℕ) (c : Cell) (i : 
   unfolding fitOf namedOf
   several d j k n =
       ap namedOf (two-several c d (keep f (cellsOf r)) (mem-keep f c (cellsOf r) (mem-cells r c i) e) (mem-keep f d (cellsOf r) (mem-cells r d j) k) n)
+
+  pub somewhere : refusalOf (namedOf (fitOf r latch)) ≡ 7 → ⊥
+  unfolding fitOf
+  somewhere = not-nowhere c (keep f (cellsOf r)) (mem-keep f c (cellsOf r) (mem-cells r c i) e)

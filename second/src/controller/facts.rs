@@ -1,6 +1,6 @@
 //! What is true of the character time the scan stands at.
 
-use super::address::Place;
+use super::address::memory_address;
 use super::registers::Registers;
 use super::scan::Scan;
 
@@ -30,17 +30,6 @@ pub fn in_picture(registers: &Registers, scan: &Scan) -> bool {
     !scan.adjusting
         && scan.row.is_below(registers.rows_shown())
         && scan.column.is_below(registers.columns_shown())
-}
-
-/// The address on the MA pins, in the picture or out of it.
-pub fn memory_address(registers: &Registers, scan: &Scan) -> u16 {
-    let place = Place {
-        start: scan.start,
-        base: u32::from(scan.base.value()),
-        row: scan.row.value(),
-        column: scan.column.value(),
-    };
-    place.memory_address(registers.row_column_addressing())
 }
 
 /// Whether the cursor is shown here: in the picture, at its address, on one of

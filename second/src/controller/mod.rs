@@ -1,6 +1,6 @@
 //! The 6545-1 CRT controller.
 
-pub mod address;
+mod address;
 pub mod counter;
 mod facts;
 mod pen;
@@ -9,7 +9,7 @@ mod scan;
 mod sync;
 
 pub use facts::Facts;
-pub use pen::Strike;
+pub use pen::{latched, Strike};
 pub use registers::Registers;
 pub use scan::Scan;
 
@@ -121,12 +121,13 @@ impl Controller {
         self.scan.adjusting || !self.scan.row.is_below(self.registers.rows_shown())
     }
 
-    /// A pen strike, judged by the picture fact and never by a pin that may
-    /// run late ("One character time", last paragraph).
+    /// A pen strike. What it latches comes later in the scan (request W5), but
+    /// whether it is in the picture is a fact of the character struck, and never
+    /// of a pin that may run late ("One character time", last paragraph).
     pub fn strike(&mut self) -> Strike {
-        let address = self.memory_address();
+        let latch = latched(&self.registers, &self.scan);
         let in_picture = self.facts().picture;
-        self.pen.strike(address, in_picture)
+        self.pen.strike(latch, in_picture)
     }
 
     pub fn last_strike(&self) -> Option<Strike> {
@@ -138,7 +139,7 @@ impl Controller {
     }
 
     pub fn memory_address(&self) -> u16 {
-        facts::memory_address(&self.registers, &self.scan)
+        address::memory_address(&self.registers, &self.scan)
     }
 
     /// The pins: each of the first two may show the character just left

@@ -1,6 +1,11 @@
 //! The light pen: its latch, the last strike, and the status bit L.
 
-use super::address::latched;
+use super::address::memory_address;
+use super::registers::Registers;
+use super::scan::Scan;
+
+/// How many character times after the strike the latched address is shown.
+const TIMES_TO_THE_LATCH: usize = 2;
 
 #[derive(Clone, Copy, PartialEq, Eq, Debug)]
 pub struct Strike {
@@ -22,11 +27,8 @@ impl Pen {
 
     /// A strike takes the place of any earlier one and sets L ("One character
     /// time", last paragraph; "Controller registers", L).
-    pub fn strike(&mut self, memory_address: u16, in_picture: bool) -> Strike {
-        let strike = Strike {
-            latch: latched(memory_address),
-            in_picture,
-        };
+    pub fn strike(&mut self, latch: u16, in_picture: bool) -> Strike {
+        let strike = Strike { latch, in_picture };
         self.last_strike = Some(strike);
         self.unread = true;
         strike
@@ -52,4 +54,15 @@ impl Pen {
             .map_or(0, |strike| strike.latch)
             .to_be_bytes()
     }
+}
+
+/// What a strike latches when the scan stands here: the MA it comes to two
+/// character times later if no register is written until then, whatever ends on
+/// the way there (request W5). A copy of the scan is stepped, not the scan.
+pub fn latched(registers: &Registers, scan: &Scan) -> u16 {
+    let mut ahead = *scan;
+    for _ in 0..TIMES_TO_THE_LATCH {
+        ahead.step(registers);
+    }
+    memory_address(registers, &ahead)
 }

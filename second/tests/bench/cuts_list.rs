@@ -32,7 +32,7 @@ fn a_head_or_a_cut_broken_off_is_no_call() {
 
 #[test]
 fn bytes_past_a_cut_are_the_next_call() {
-    let one = "0000040001000000\n0400000200000000\n";
+    let one = "0000040001000000\n0400000000000000\n";
     is_no_list(&[&[1, 0, 8, 0, 4], &STRIKE, &[0]]);
     gives(
         &[&[1, 0, 8, 0, 4], &STRIKE, CLOSE],
@@ -57,7 +57,7 @@ fn a_list_of_4096_bytes_is_made_and_a_longer_one_is_none() {
 #[test]
 fn the_longest_cut_has_4091_bytes() {
     let longest = [&STRIKE.repeat(1_022)[..], &[4, 0, 0]].concat();
-    let whole = String::from("000ffb03fe000000\n") + &"0400000200000000\n".repeat(1_022);
+    let whole = String::from("000ffb03fe000000\n") + &"0400000000000000\n".repeat(1_022);
     gives(&[&cut(8_176, &longest)], &whole);
     let longer = STRIKE.repeat(1_023);
     is_no_list(&[&cut(8_176, &longer)]);

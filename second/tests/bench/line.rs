@@ -7,8 +7,8 @@ use crate::trial::{Trial, SETTING_A};
 
 pub const UNTOUCHED: u8 = 0xEE;
 
-/// The answer to a strike on the fresh chip.
-const STRUCK: [u8; 8] = [4, 0, 0, 2, 0, 0, 0, 0];
+/// The answer to a strike on the fresh chip, which shows address 0 at all times.
+const STRUCK: [u8; 8] = [4, 0, 0, 0, 0, 0, 0, 0];
 
 pub fn fresh_line() -> Line {
     Line::open(Bench::fresh())

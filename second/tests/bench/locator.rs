@@ -33,10 +33,15 @@ fn every_cell_of_a_screen_is_located_as_itself() {
 #[test]
 fn columns_of_the_list_are_below_r1_and_at_most_r0() {
     let trial = struck_at(0, 5);
-    assert_eq!(located_with(&trial, &[(0, 5)]), Ok((0, 5)));
-    assert_eq!(located_with(&trial, &[(0, 4)]), Err(7));
     assert_eq!(located_with(&trial, &[(6, 1), (1, 6)]), Ok((0, 5)));
     assert_eq!(located_with(&trial, &[(6, 1), (1, 5)]), Err(7));
+    // The last column leads to column 1 of row 1, which is address 9. So would
+    // column 7, two further on in its line, if it were in the list.
+    let trial = struck_at(0, 7);
+    for last_column in 2..7 {
+        let shortened = [(0, last_column)];
+        assert_eq!(located_with(&trial, &shortened), Ok((0, last_column)));
+    }
 }
 
 #[test]
@@ -112,10 +117,14 @@ fn a_later_strike_replaces_an_earlier_one() {
 #[test]
 fn a_strike_past_a_lowered_r0_is_in_the_picture_but_in_no_cell() {
     let mut trial = Trial::with(&EIGHT_BY_EIGHT);
-    trial.clocks(6);
+    trial.clocks(5);
     trial.set_all(&[(0, 3), (6, 1)]);
-    assert_eq!(trial.strike(), (8, 1));
+    // The four cells left have 2 and 3, and 8 and 9 of the row below.
+    assert_eq!(trial.strike(), (7, 1));
     assert_eq!(trial.locate(), Err(7));
+    trial.clocks(1);
+    assert_eq!(trial.strike(), (8, 1));
+    assert_eq!(trial.locate(), Ok((0, 2)));
 }
 
 #[test]
@@ -124,12 +133,13 @@ fn refusals_come_in_the_order_5_6_7_8() {
     let mut trial = Trial::fresh();
     assert_eq!(trial.locate(), Err(5));
     // Still no cells, struck outside the picture: 6 before 7.
-    trial.strike();
+    trial.set_all(&[(0, 255), (1, 130), (4, 127)]);
+    assert_eq!(trial.strike(), (2, 0));
     assert_eq!(trial.locate(), Err(6));
-    // Many cells fit the latch, but the strike was outside: 6 before 8.
-    trial.set_all(&[(0, 255), (1, 130), (4, 127), (6, 127)]);
+    // Two cells fit the latch, but the strike was outside: 6 before 8.
+    trial.set(6, 127);
     assert_eq!(trial.locate(), Err(6));
-    trial.strike();
+    assert_eq!(trial.strike(), (2, 1));
     assert_eq!(trial.locate(), Err(8));
     // A reset forgets the strike.
     trial.reset_controller();

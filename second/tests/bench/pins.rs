@@ -257,5 +257,6 @@ fn a_strike_is_judged_by_the_picture_and_not_by_the_late_pin() {
     assert!(!trial.now().shows(DISPLAY_ENABLE));
     assert_eq!(trial.strike(), (2, 1));
     assert!(trial.clocks(2).shows(DISPLAY_ENABLE));
-    assert_eq!(trial.strike(), (4, 0));
+    // The frame begins anew two character times later.
+    assert_eq!(trial.strike(), (0, 0));
 }

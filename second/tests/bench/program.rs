@@ -73,10 +73,10 @@ fn the_program_takes_small_rooms_and_larger_ones() {
     let batch = [4, 0, 0, 0, 4, 0, 0, 0];
     prints_room(&input(0, &batch), "0400000000000000\n");
     prints_room(&input(7, &batch), "0400000000000000\na5a5a5a5a5a5a5\n");
-    let one = "0400040001000000\n0400000200000000\n";
+    let one = "0400040001000000\n0400000000000000\n";
     prints_room(&input(8, &batch), one);
     prints_room(&input(9, &batch), &(String::from(one) + "a5\n"));
-    let two = "0000080002000000\n0400000200000000\n0400000200000000\na5a5a5a5a5a5a5a5\na5\n";
+    let two = "0000080002000000\n0400000000000000\n0400000000000000\na5a5a5a5a5a5a5a5\na5\n";
     prints_room(&input(25, &batch), two);
 }
 
@@ -84,7 +84,7 @@ fn the_program_takes_small_rooms_and_larger_ones() {
 fn the_program_ends_with_3_with_room_and_without() {
     prints_room(&input(0, &[4]), "0300000000000000\n");
     prints_room(&input(7, &[4, 0, 0]), "0300000000000000\na5a5a5a5a5a5a5\n");
-    let one = "0300040001000000\n0400000200000000\n";
+    let one = "0300040001000000\n0400000000000000\n";
     prints_room(&input(8, &[4, 0, 0, 0, 4, 0]), one);
     let untouched = String::from(one) + "a5a5a5a5a5a5a5a5\n";
     prints_room(&input(16, &[4, 0, 0, 0, 4, 0]), &untouched);

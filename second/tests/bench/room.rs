@@ -4,9 +4,9 @@ use second::room::room_text;
 
 use crate::listing::{SETTLED_INPUT, SETTLED_LISTING};
 
-/// A strike on the fresh chip, and its answer.
+/// A strike on the fresh chip, which shows address 0 at all times, and its answer.
 pub const STRIKE: [u8; 4] = [4, 0, 0, 0];
-pub const STRUCK: &str = "0400000200000000\n";
+pub const STRUCK: &str = "0400000000000000\n";
 
 /// The room's two bytes and the batch after them.
 pub fn input(room: u16, batch: &[u8]) -> Vec<u8> {
@@ -61,26 +61,26 @@ fn no_byte_of_room_shows_the_counts_alone() {
 fn rooms_around_one_answer() {
     let batch = STRIKE.repeat(2);
     gives(7, &batch, "0400000000000000\na5a5a5a5a5a5a5\n");
-    gives(8, &batch, "0400040001000000\n0400000200000000\n");
-    gives(9, &batch, "0400040001000000\n0400000200000000\na5\n");
+    gives(8, &batch, "0400040001000000\n0400000000000000\n");
+    gives(9, &batch, "0400040001000000\n0400000000000000\na5\n");
 }
 
 #[test]
 fn one_record_fills_eight_bytes_and_ends_with_0() {
-    gives(8, &STRIKE, "0000040001000000\n0400000200000000\n");
-    gives(9, &STRIKE, "0000040001000000\n0400000200000000\na5\n");
+    gives(8, &STRIKE, "0000040001000000\n0400000000000000\n");
+    gives(9, &STRIKE, "0000040001000000\n0400000000000000\na5\n");
 }
 
 #[test]
 fn more_room_than_needed_is_left_untouched() {
-    let expected = "0000040001000000\n0400000200000000\na5a5a5a5a5a5a5a5\na5a5a5a5\n";
+    let expected = "0000040001000000\n0400000000000000\na5a5a5a5a5a5a5a5\na5a5a5a5\n";
     gives(20, &STRIKE, expected);
     gives(10, &[], "0000000000000000\na5a5a5a5a5a5a5a5\na5a5\n");
 }
 
 #[test]
 fn a_broken_record_ends_with_3_when_there_is_room() {
-    let expected = "0300040001000000\n0400000200000000\na5a5a5a5a5a5a5a5\n";
+    let expected = "0300040001000000\n0400000000000000\na5a5a5a5a5a5a5a5\n";
     for extra in 1..4 {
         let batch = [&STRIKE[..], &[255; 3][..extra]].concat();
         gives(16, &batch, expected);
@@ -94,11 +94,11 @@ fn a_broken_record_ends_with_3_also_without_room() {
         gives(0, broken, "0300000000000000\n");
         gives(7, broken, "0300000000000000\na5a5a5a5a5a5a5\n");
         let batch = [&STRIKE[..], broken].concat();
-        gives(8, &batch, "0300040001000000\n0400000200000000\n");
+        gives(8, &batch, "0300040001000000\n0400000000000000\n");
         gives(
             15,
             &batch,
-            "0300040001000000\n0400000200000000\na5a5a5a5a5a5a5\n",
+            "0300040001000000\n0400000000000000\na5a5a5a5a5a5a5\n",
         );
     }
 }

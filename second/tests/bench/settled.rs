@@ -46,7 +46,7 @@ fn case_d_one_clock_and_a_strike() {
 fn case_e_two_clocks_and_a_strike_outside_the_picture() {
     let mut trial = Trial::with(&SETTING_A);
     trial.clocks(2);
-    assert_eq!(trial.strike(), (4, 0));
+    assert_eq!(trial.strike(), (0, 0));
     assert_eq!(trial.locate(), Err(6));
 }
 
