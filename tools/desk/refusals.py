@@ -16,8 +16,9 @@ ADVICE = {
     7: "A register was written after the controller's reset, or there was none, and the scan is not where the registers as they stand would "
        "have it; R12 and R13, for one, count only from the next frame or reset on. Put the reset behind the setting, and locate before you "
        "write another register.",
-    8: "The pen cannot tell these cells apart: the picture has more cells than addresses, or its rows share some. Make the picture "
-       "smaller, or show the part that matters alone, and fire again.",
+    8: "The pen cannot tell these cells apart: the picture has more cells than addresses, or its rows share some, or it reaches the last two "
+       "characters of the line, where a strike latches an address of the next line. Make the picture smaller, with R1 at most R0 - 1, or show "
+       "the part that matters alone, and fire again.",
 }
 
 # Beside each cell that is located after registers were written, and what it means, once.

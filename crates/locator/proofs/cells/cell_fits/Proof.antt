@@ -21,8 +21,10 @@ line-fits-requires-3 c κs = search needs
 
 returns : tie.Need-returns
 returns c =
-    let a = c .before .before .before .before .before .args in
-    rw (c .line-fits3 .ensures, c .before .line-fits2 .ensures, c .before .before .one-less .ensures .0, c .before .before .before .line-fits .ensures)
+    let second = c .before in
+    let first = second .before .before in
+    let a = first .before .before .args in
+    rw (c .line-fits3 .ensures, second .line-fits2 .ensures, second .before .one-less .ensures .0, first .line-fits .ensures)
     (sym (three-lines (a .t1) (a .latch) (a .c)))
 
 pub cell-fits-spec : {M : Type 1} → statement M
