@@ -230,7 +230,8 @@ def cell_cut_off(setting, row, column):
 
 
 def no_cell_fits(rng):
-    """A strike in the picture, then a frame that ends before it, or a start address far away, then locate: refused 7."""
+    """A strike in the picture, then a frame that ends before it, or a start address far away, then locate: refused 7, but where the
+    line's new end leads to the latch."""
     parts = []
     for _ in range(rng.randint(4, 10)):
         setting = small_setting(rng)

@@ -35,7 +35,7 @@ def to_line_end(rng, setting):
     return clocks(((setting[9] + 1) * row + line) * line_length(setting) + column)
 
 
-def shifted(rng, setting):
+def shifted(rng):
     """One of the registers that a latch there goes by, written with another setting's value."""
     register = rng.choice(SHIFTED)
     return put(register, full_setting(rng)[register])
@@ -44,17 +44,18 @@ def shifted(rng, setting):
 def struck_and_located(rng, setting):
     """A strike at a line's end and the cell that is found, with a register written before the strike or before the locate at times."""
     before, behind = ((rng.randrange(6) == 0) for _ in range(2))
-    parts = [reset_controller(), to_line_end(rng, setting), shifted(rng, setting) if before else b""]
+    parts = [reset_controller(), to_line_end(rng, setting), shifted(rng) if before else b""]
     parts += [strike(), locate(), get(16) + get(17) if rng.randrange(3) == 0 else b""]
     if behind:
-        parts += [shifted(rng, setting), locate()]
+        parts += [shifted(rng), locate()]
     if before or behind:
         parts.append(written(rng, setting))
     return b"".join(parts)
 
 
 def full_pictures(rng, setting_of=full_setting):
-    """Pictures up to the line's end, struck in its last characters: located, or refused 8 where another cell's line ends alike."""
+    """Pictures up to the line's end, struck in its last characters: located, refused 8 where another cell's line ends alike, 6 where a
+    character is not shown, and 7 where a register was written."""
     parts = []
     for _ in range(rng.randint(3, 6)):
         setting = setting_of(rng)

@@ -16,10 +16,10 @@ SUMS = {
     "crates/controller/specs/Widths.antt": "1223d07be6f9281c",
     "crates/decimal/specs/Decimal.antt": "a7053a9c0a329c3d",
     "crates/demand/specs/Demand.antt": "8246fd187d767f17",
-    "crates/demand/specs/Shortcut.antt": "519b15944098574b",
+    "crates/demand/specs/Latches.antt": "bd50de5b08047411",
     "crates/every_line/specs/Calls.antt": "f39ea8722da126a9",
     "crates/every_line/specs/Cuts.antt": "a2d24932f0a8722b",
-    "crates/every_line/specs/Demand.antt": "d3968781dd39a2f4",
+    "crates/every_line/specs/Demand.antt": "e3da5da268077f4b",
     "crates/every_record/specs/Alone.antt": "a8717d975bede313",
     "crates/every_record/specs/Calls.antt": "111253a3318177cf",
     "crates/every_record/specs/Reads.antt": "0b2065e4011c4ef5",
@@ -36,7 +36,7 @@ SUMS = {
     "crates/replay/specs/Run.antt": "af9cc5c81c5527a6",
     "crates/serial_listing/specs/Printed.antt": "0ce4981eac4c0c89",
     "crates/setting/specs/Writes.antt": "f6b1f20f926ceb9c",
-    "crates/settled/specs/Cases.antt": "f22cbedc21497d74",
+    "crates/settled/specs/Cases.antt": "e02b225a991789ab",
     "crates/settled/specs/Premises.antt": "fd0c353a03bbe3fc",
 }
 

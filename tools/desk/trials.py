@@ -35,8 +35,8 @@ def edges():
     return b"".join(made)
 
 
-STRIKE = bytes((4, 0, 0, 0))
-LATCHED, DONE = b"0400000000000000\n", b"0100000000000000\n"
+CLOCK = bytes((3, 0, 0, 0))  # none at all, so the fresh chip shows where it is
+SHOWN, DONE = b"0300000000100000\n", b"0100000000000000\n"
 # Setting A in words and as bytes, and what is counted of it.
 A_IN_WORDS = b"R0 = 3; R1 = 2; R4 = 1; R5 = 1; R6 = 2; R9 = $01\n"
 A = bytes((3, 2, 0, 0, 1, 1, 2, 0, 0, 1, 0, 0, 0, 0, 0, 0))
@@ -81,21 +81,21 @@ COUNTED = (
           {"most.settings": 64 * b"setting;"}),
 )
 
-# Calls on a line: a strike in two cuts, without room and with it, closing, and a call after that.
-HALVES = b"cut 0 040000  # three bytes\r\ncut 7 00\ncut $8 00\nclose\nclose"
-HALVES_IN_HEX = b"01 0000 0003 040000 # three bytes\n01 0007 0001 00\n01 0008 0001 00\n02 02\n"
-HALVES_MADE = b"0000030000000000\n0400000000000000\na5a5a5a5a5a5a5\n0000010001000000\n" + LATCHED + b"0000000000000000\n0c00000000000000\n"
+# Calls on a line: a record in two cuts, without room and with it, closing, and a call after that.
+HALVES = b"cut 0 030000  # three bytes\r\ncut 7 00\ncut $8 00\nclose\nclose"
+HALVES_IN_HEX = b"01 0000 0003 030000 # three bytes\n01 0007 0001 00\n01 0008 0001 00\n02 02\n"
+HALVES_MADE = b"0000030000000000\n0400000000000000\na5a5a5a5a5a5a5\n0000010001000000\n" + SHOWN + b"0000000000000000\n0c00000000000000\n"
 HALVES_IN_WORDS = b"""\
-cut 0 040000  # three bytes
-    ended with 0: no whole record is left; 3 of 3 bytes taken; 04 00 00 held for the next call
+cut 0 030000  # three bytes
+    ended with 0: no whole record is left; 3 of 3 bytes taken; 03 00 00 held for the next call
     0 of 0 output bytes stayed as they were
 cut 7 00
-    ended with 4: the next answer has no room; 0 of 1 byte taken; 04 00 00 held for the next call
+    ended with 4: the next answer has no room; 0 of 1 byte taken; 03 00 00 held for the next call
     7 of 7 output bytes stayed as they were
     call again with the rest, with 8 bytes of room at least: 00
 cut 8 00
     ended with 0: no whole record is left; 1 of 1 byte taken; nothing held
-    04000000  0400000000000000  strike: latch $0000, outside the picture
+    03000000  0300000000100000  clock 0: MA $0000, RA 0, outside the picture, VSYNC
     0 of 8 output bytes stayed as they were
 close
     ended with 0: the line is closed, and no byte was held
@@ -103,13 +103,13 @@ close
     ended with 12: the line was closed before, and nothing changes
 """
 OFF_A_LINE = (
-    Trial(("serial", "-"), 0, LATCHED + b"end 0\n", (), given=STRIKE),
-    Trial(("serial", "-"), 0, LATCHED + b"end 3\n", ("09 00", "2 of a record's 4"), given=STRIKE + b"\x09\0"),
+    Trial(("serial", "-"), 0, SHOWN + b"end 0\n", (), given=CLOCK),
+    Trial(("serial", "-"), 0, SHOWN + b"end 3\n", ("09 00", "2 of a record's 4"), given=CLOCK + b"\x09\0"),
     Trial(("serial", "-"), 0, b"end 0\n", ("it has no record",)),
-    Trial(("serial", "long.bin"), 0, 5000 * LATCHED + b"end 0\n", (), {"long.bin": 5000 * STRIKE}),
-    Trial(("serial", "--explain", "cut.bin"), 0, b"04000000  0400000000000000  strike: latch $0000, outside the picture\n"
+    Trial(("serial", "long.bin"), 0, 5000 * SHOWN + b"end 0\n", (), {"long.bin": 5000 * CLOCK}),
+    Trial(("serial", "--explain", "cut.bin"), 0, b"03000000  0300000000100000  clock 0: MA $0000, RA 0, outside the picture, VSYNC\n"
           b"          end 3             the last bytes, 09, are 1 of a record's 4: the file was cut, or a byte is missing or too many "
-          b"somewhere before. All whole records are answered.\n", (), {"cut.bin": STRIKE + b"\x09"}),
+          b"somewhere before. All whole records are answered.\n", (), {"cut.bin": CLOCK + b"\x09"}),
     Trial(("serial", "good.batch"), 2, b"", ("good.batch", "bytes are read here", "bytes FILE | "), {"good.batch": b"strike\n"}),
     Trial(("serial", "missing"), 2, b"", ("missing: there is no such file",)),
     Trial(("serial", "."), 2, b"", ("this is a folder",)),
@@ -129,32 +129,32 @@ OFF_A_LINE = (
 )
 
 TRIALS = (
-    Trial(("listing", "good.batch"), 0, LATCHED + b"end 0\n", (), {"good.batch": b"strike  # latch 0\r\n"}),
-    Trial(("listing", "good.hex"), 0, LATCHED + b"end 0\n", (), {"good.hex": b"\xef\xbb\xbf0400 # a part\n0000"}),
-    Trial(("listing", "good.bin"), 0, LATCHED + b"end 0\n", (), {"good.bin": STRIKE}),
-    Trial(("listing", "--as", "bytes", "good.txt"), 0, LATCHED + b"end 0\n", (), {"good.txt": STRIKE}),
+    Trial(("listing", "good.batch"), 0, SHOWN + b"end 0\n", (), {"good.batch": b"clock 0  # VSYNC\r\n"}),
+    Trial(("listing", "good.hex"), 0, SHOWN + b"end 0\n", (), {"good.hex": b"\xef\xbb\xbf0300 # a part\n0000"}),
+    Trial(("listing", "good.bin"), 0, SHOWN + b"end 0\n", (), {"good.bin": CLOCK}),
+    Trial(("listing", "--as", "bytes", "good.txt"), 0, SHOWN + b"end 0\n", (), {"good.txt": CLOCK}),
     Trial(("listing", "wrong.batch"), 2, b"", ("wrong.batch, line 2", "no word 'stirke'", "'strike'", "line 3", "0 to 255"),
           {"wrong.batch": b"strike\nstirke\nR0 = 256\n"}),
     Trial(("explain", "wrong.hex"), 2, b"", ("wrong.hex, line 1", "'g'"), {"wrong.hex": b"0g"}),
-    Trial(("listing", "unknown.txt"), 2, b"", ("unknown.txt", ".batch", "--as"), {"unknown.txt": STRIKE}),
+    Trial(("listing", "unknown.txt"), 2, b"", ("unknown.txt", ".batch", "--as"), {"unknown.txt": CLOCK}),
     Trial(("listing", "missing.batch"), 2, b"", ("missing.batch: there is no such file",)),
     Trial(("listing", "."), 2, b"", ("this is a folder",)),
     Trial(("listing", "-"), 2, b"", ("standard input", "--as")),
     Trial(("listing", "empty.batch"), 0, b"end 0\n", ("the batch is empty",), {"empty.batch": b""}),
-    Trial(("listing", "cut.bin"), 0, LATCHED + b"end 3\n", ("09 00", "2 of a record's 4"), {"cut.bin": STRIKE + b"\x09\0"}),
+    Trial(("listing", "cut.bin"), 0, SHOWN + b"end 3\n", ("09 00", "2 of a record's 4"), {"cut.bin": CLOCK + b"\x09\0"}),
     Trial(("explain", "cut.bin"), 0, b"          end 3             the last bytes, 09, are 1 of a record's 4: the file was cut, or a byte is missing "
           b"or too many somewhere before. All whole records are answered.\n", (), {"cut.bin": b"\x09"}),
-    Trial(("words", "cut.bin"), 0, b"strike\nbytes 09 00\n", (), {"cut.bin": STRIKE + b"\x09\0"}),
+    Trial(("words", "cut.bin"), 0, b"clock 0\nbytes 09 00\n", (), {"cut.bin": CLOCK + b"\x09\0"}),
     Trial(("listing", "long.bin"), 0, b"too long\n", ("5,000 bytes", "4,096", "1,024 records", "fresh"), {"long.bin": bytes(5000)}),
-    Trial(("rooms", "8", "two.batch"), 0, b"0400040001000000\n" + LATCHED, (), {"two.batch": b"strike; strike\n"}),
-    Trial(("rooms", "8", "cut.batch"), 0, b"0400040001000000\n" + LATCHED, (), {"cut.batch": b"strike; strike; bytes 09\n"}),
-    Trial(("explain", "GOOD.BATCH"), 0, b"04000000  0400000000000000  strike: latch $0000, outside the picture\n"
-          b"          end 0             every record was answered\n", (), {"GOOD.BATCH": b"strike\n"}),
+    Trial(("rooms", "8", "two.batch"), 0, b"0400040001000000\n" + SHOWN, (), {"two.batch": b"clock 0; clock 0\n"}),
+    Trial(("rooms", "8", "cut.batch"), 0, b"0400040001000000\n" + SHOWN, (), {"cut.batch": b"clock 0; clock 0; bytes 09\n"}),
+    Trial(("explain", "GOOD.BATCH"), 0, b"03000000  0300000000100000  clock 0: MA $0000, RA 0, outside the picture, VSYNC\n"
+          b"          end 0             every record was answered\n", (), {"GOOD.BATCH": b"clock 0\n"}),
     Trial(("listing", "kept.batch"), 0, 3 * DONE + b"0200013f00000000\n" + 3 * DONE + b"020001ff00000000\nend 0\n", (),
           {"kept.batch": b"R14 = $FF; read R14; R15 = $FF; read R15\n"}),
     Trial(("cases",), 0, (TOP / "crates/cases/stdout").read_bytes(), ()),
-    Trial(("rooms", "9000", "two.batch"), 2, b"", ("0 to 8192",), {"two.batch": b"strike; strike\n"}),
-    Trial(("listen", "two.batch"), 2, b"", ("listen", "listing"), {"two.batch": b"strike; strike\n"}),
+    Trial(("rooms", "9000", "two.batch"), 2, b"", ("0 to 8192",), {"two.batch": b"clock 0; clock 0\n"}),
+    Trial(("listen", "two.batch"), 2, b"", ("listen", "listing"), {"two.batch": b"clock 0; clock 0\n"}),
     Trial((), 2, b"", ("usage", "explain")),
     *COUNTED,
     *OFF_A_LINE,

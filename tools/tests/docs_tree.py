@@ -6,7 +6,7 @@ from tests.trees import TreeTest
 
 RULES, PROMISES, DECISIONS, TIMES = "docs/RULES.md", "docs/PROMISES.md", "docs/DECISIONS.md", "docs/CHECK-TIMES.md"
 EVIDENCE, PROVING, LISTING = "docs/EVIDENCE.md", "docs/PROVING.md", "docs/LISTING.md"
-EXPLAINED = "04000000  0400000000000000  strike: latch $0000, outside the picture"
+EXPLAINED = "04000000  0400000200000000  strike: latch $0002, outside the picture"
 ONE = "crates/alpha/specs/One.antt"
 FILE = promises.FILE
 HEAD = "| promise | statement | proof | restated as | refused |\n|---|---|---|---|---|\n"

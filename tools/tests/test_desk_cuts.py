@@ -91,7 +91,7 @@ PRINTED = """\
 0400000000000000
 a5a5a5a5a5a5a5
 0000070002000000
-0400000000000000
+0400000200000000
 0200014000000000
 a5a5a5a5
 0400020001000000
@@ -114,7 +114,7 @@ cut 7 00
     call again with the rest, with 8 bytes of room at least: 00
 cut 20 00 02000000 0900  # the rest, and more
     ended with 0: no whole record is left; 7 of 7 bytes taken; 09 00 held for the next call
-    04000000  0400000000000000  strike: latch $0000, outside the picture
+    04000000  0400000200000000  strike: latch $0002, outside the picture
     02000000  0200014000000000  status: $40, L (a strike not read yet)
     4 of 20 output bytes stayed as they were
 cut 12 0000 02000000 02000000
@@ -313,7 +313,7 @@ class Printed(unittest.TestCase):
                 called(calls(WORDS).data, text)
 
     def test_numbers_that_cannot_be(self):
-        latched, untouched = "0400000000000000\n", "a5a5a5a5a5a5a5a5\n"
+        latched, untouched = "0400000200000000\n", "a5a5a5a5a5a5a5a5\n"
         for words, printed in (("cut 8 04000000", f"0000030001000000\n{latched}"), ("cut 8 04000000", f"0000040000000000\n{untouched}"),
                                ("cut 8 04", f"0000010001000000\n{latched}"), ("cut 8 04", f"0000020000000000\n{untouched}"),
                                ("cut 8 04", "0000010000000000\na5a5a5a5a5a5a500\n"), ("cut 8 04", f"0000010000000001\n{untouched}"),

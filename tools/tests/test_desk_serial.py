@@ -32,7 +32,7 @@ from records import records_of
 from tests.desk_tree import CommandTest, HelpTest, desk_alone
 
 TESTS = pathlib.Path(__file__).parent
-STRIKE, LATCHED = b"\x04\0\0\0", "0400000000000000"
+STRIKE, LATCHED = b"\x04\0\0\0", "0400000200000000"
 SECONDS = 20  # for a line that is to come; far more than it takes
 A_MOMENT = 0.3  # for one that is not
 

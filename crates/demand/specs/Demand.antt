@@ -61,12 +61,12 @@ pub record Demand3 (c : Controller) : Type 0 where
   pub fitting : (before : List Act) (more : List Wait)
       → pictureOf (c .regs) (struckAt c before) ≡ true
       → (refusalOf (answerTo c before more) ≡ 7 → ⊥)
-  -- it fell in the picture, R1 is at most R0 - 1, and no two cells have one address: never refused with 8
+  -- it fell in the picture, R1 is at most R0 - 1, and no two cells have one address: never refused with 8 (request W5)
   pub unshared : reg (c .regs) 1 + 1 ≤ reg (c .regs) 0 → OneCellEach (c .regs)
       → (before : List Act) (more : List Wait)
       → pictureOf (c .regs) (struckAt c before) ≡ true
       → (refusalOf (answerTo c before more) ≡ 8 → ⊥)
-  -- it fell outside the picture: refused with 6, though a cell may share the address
+  -- it fell outside the picture: refused with 6, though a cell may fit what it latched
   pub outside : (before : List Act) (more : List Wait)
       → pictureOf (c .regs) (struckAt c before) ≡ false
       → refusalOf (answerTo c before more) ≡ 6

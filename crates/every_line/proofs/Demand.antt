@@ -100,6 +100,7 @@ module _ (c : Controller) (d : Demand3 c) (acts : List Act) where
         unstruck = λ more e. refused-answer (found acts) 5 (rw e (d .unstruck more)) (λ z. absurd (omega (arith, z)));
         named = λ before more e p r. found-answer (found acts) _ _ (rw e (d .named before more p r));
         shared = λ before more e p x v. refused-answer (found acts) 8 (rw e (d .shared before more p x v)) (λ z. absurd (omega (arith, z)));
+        fitting = λ before more e p z. d .fitting before more p (rw (sym e) (ap (λ (a : Answer). a .refusal) z));
         unshared = λ h one before more e p z. d .unshared h one before more p (rw (sym e) (ap (λ (a : Answer). a .refusal) z));
         outside = λ before more e p. refused-answer (found acts) 6 (rw e (d .outside before more p)) (λ z. absurd (omega (arith, z)));
       }

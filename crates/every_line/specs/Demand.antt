@@ -58,11 +58,14 @@ pub record Answer3 (c : Controller) (acts : List Act) (answer : Answer) : Type 0
   -- in the picture, and another picture cell would: refused with 8
   pub shared : (before : List Act) (more : List Wait) → acts ≡ before ++ strikes ∷ map waits more
       → pictureOf (c .regs) (struckAt c before) ≡ true → (d : Cell) → Rival c (struckAt c before) d → answer ≡ plainOf 9 8
-  -- in the picture, R1 at most R0 - 1, and no two cells of one address: not refused with 8
+  -- in the picture: not refused with 7
+  pub fitting : (before : List Act) (more : List Wait) → acts ≡ before ++ strikes ∷ map waits more
+      → pictureOf (c .regs) (struckAt c before) ≡ true → (answer ≡ plainOf 9 7 → ⊥)
+  -- in the picture, R1 at most R0 - 1, and no two cells of one address: not refused with 8 (request W5)
   pub unshared : reg (c .regs) 1 + 1 ≤ reg (c .regs) 0 → OneCellEach (c .regs)
       → (before : List Act) (more : List Wait) → acts ≡ before ++ strikes ∷ map waits more
       → pictureOf (c .regs) (struckAt c before) ≡ true → (answer ≡ plainOf 9 8 → ⊥)
-  -- outside the picture: refused with 6, though a cell may share the address
+  -- outside the picture: refused with 6, though a cell may fit what was latched
   pub outside : (before : List Act) (more : List Wait) → acts ≡ before ++ strikes ∷ map waits more
       → pictureOf (c .regs) (struckAt c before) ≡ false → answer ≡ plainOf 9 6
 

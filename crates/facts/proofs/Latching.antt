@@ -26,13 +26,14 @@ module _ (r : Registers) (s : Scan) where
       let q = next-field r (nextOf r s) (p .0) in
       ap (maOf r) (ap (nextOf r) (p .1) ∙ q .1)
 
-  module _ (within : s .column + 2 ≤ reg r 0) (narrow : s .column + 2 < 256) where
+  module _ (here : s .column ≡ reg r 0 → ⊥) (there : s .column + 1 ≡ reg r 0 → ⊥) (narrow : s .column + 2 < 256) where
     -- where the line goes on for two characters more: the address two columns on, whatever the line
     pub latch-within : latchOf r s ≡ addressOf r (s .start) (s .base) (s .row) (s .column + 2)
     unfolding latchOf maOf
     latch-within =
+        let one : countedOf Eight (s .column) 1 ≡ s .column + 1 = omega arith in
         let e : countedOf Eight (countedOf Eight (s .column) 1) 1 ≡ s .column + 2 = omega arith in
-        ap (maOf r) (ap (nextOf r) (next-along r s (omega arith)) ∙ next-along r (alongOf s) (omega arith))
+        ap (maOf r) (ap (nextOf r) (next-along r s here) ∙ next-along r (alongOf s) (λ q. there (sym one ∙ q)))
         ∙ ap (addressOf r (s .start) (s .base) (s .row)) e
 
     -- and that is MA and 2, where addresses are counted on from the row's base

@@ -8,11 +8,11 @@ use Rattle.basics.specs.Bits.{wordOf, highOf, lowOf}
 use Rattle.raster.specs.Registers.{reg, startOf, rowBaseOf, byRowsOf}
 use Rattle.raster.specs.declared.registers.Registers.{Registers}
 use Rattle.facts.specs.Facts.{addressOf}
-use Rattle.facts.proofs.Latching.{latch-within, two-back}
-use Rattle.locator.specs.Cells.{cellAddressOf, cellScanOf, cellLatchOf, fitsOf}
+use Rattle.facts.proofs.Latching.{two-back}
+use Rattle.locator.specs.Cells.{cellAddressOf, fitsOf}
 use Rattle.locator.specs.private.Search.{fromBaseOf, fromLowOf}
 use Rattle.locator.specs.declared.cells.Cell.{Cell}
-use Rattle.locator.proofs.Lines.{fit-line}
+use Rattle.locator.proofs.Lines.{fit-line, two-columns-on}
 
 -- the column that a latch leaves over from its row's first address, in either way of addressing
 counted-on : (base x latch : ℕ) → x < 256 → (base + (x + 2)) % 16384 ≡ latch → x ≡ fromBaseOf base latch
@@ -24,8 +24,7 @@ low-byte high start x latch h e = omega arith
 module _ (r : Registers) (latch : ℕ) where
   module _ (c : Cell) (within : c .column + 2 ≤ reg r 0) (narrow : c .column + 2 < 256) (fits : fitsOf r latch c ≡ true) where
     two-on : addressOf r (startOf r) (rowBaseOf r (c .row)) (c .row) (c .column + 2) ≡ latch
-    unfolding cellLatchOf
-    two-on = let q = fit-line r latch c fits in sym (latch-within r (cellScanOf r c (q .0)) within narrow) ∙ q .2
+    two-on = let q = fit-line r latch c fits in sym (two-columns-on r latch c within narrow (q .0)) ∙ q .2
 
     pub by-base : byRowsOf r ≡ false → c .column ≡ fromBaseOf (rowBaseOf r (c .row)) latch
     unfolding addressOf

@@ -7,8 +7,9 @@ use native.Mathlib.Nat.{eq-or-lt-of-le}
 use native.Mathlib.Omega.{arith}
 use borrow.Author.Tests.{eqb-true, eq-eqb}
 use Rattle.basics.specs.Count.{count}
-use Rattle.raster.specs.Registers.{reg}
+use Rattle.raster.specs.Registers.{reg, startOf, rowBaseOf}
 use Rattle.raster.specs.declared.registers.Registers.{Registers}
+use Rattle.facts.specs.Facts.{addressOf}
 use Rattle.facts.proofs.Latching.{latch-within, latch-lines}
 use Rattle.locator.specs.Cells.{cellScanOf, cellLatchOf, anyOf, fitsOf}
 use Rattle.locator.specs.private.Search.{lineFitsOf}
@@ -78,15 +79,15 @@ module _ (r : Registers) (latch : ℕ) (c : Cell) where
 
   -- two or more columns before the line's end all lines latch alike, so the first tells
   module _ (within : c .column + 2 ≤ reg r 0) (narrow : c .column + 2 < 256) where
-    across : (l m : ℕ) → cellLatchOf r c l ≡ cellLatchOf r c m
+    pub two-columns-on : (line : ℕ) → cellLatchOf r c line ≡ addressOf r (startOf r) (rowBaseOf r (c .row)) (c .row) (c .column + 2)
     unfolding cellLatchOf
-    across l m = latch-within r (cellScanOf r c l) within narrow ∙ sym (latch-within r (cellScanOf r c m) within narrow)
+    two-columns-on line = latch-within r (cellScanOf r c line) (λ e. omega arith) (λ e. omega arith) narrow
 
     pub first-line : fitsOf r latch c ≡ on 0
     unfolding lineFitsOf
     first-line =
         same-test (fitsOf r latch c) (on 0)
-        (λ e. let q = fit-line e in same-line (q .0) 0 (across (q .0) 0) (eq-eqb _ _ (q .2)))
+        (λ e. let q = fit-line e in same-line (q .0) 0 (two-columns-on (q .0) ∙ sym (two-columns-on 0)) (eq-eqb _ _ (q .2)))
         (λ e. fitting 0 (omega arith) e)
 
   -- two or more lines before the row's last all lines latch alike

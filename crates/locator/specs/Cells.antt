@@ -76,7 +76,7 @@ unfoldable pub anyOf : {A : Type 0} → (A → Bool) → List A → Bool
 anyOf f [] = false
 anyOf f (a ∷ l) = f a || anyOf f l
 
--- a cell fits a latch when a strike in it, on any of its lines, would leave that latch
+-- whether a cell fits a latch: one of its lines is such that a strike there would leave it
 unfoldable pub fitsOf : Registers → ℕ → Cell → Bool
 fitsOf r latch c = anyOf (λ (line : ℕ). eqb (cellLatchOf r c line) latch) (linesOf r)
 

@@ -1,5 +1,6 @@
 // Which cells fit a latch. The rows are gone over once. Where the line goes on for two characters more a row has at most one cell that fits,
-// since its columns are fewer than the addresses they run through: so that one column is computed. Only the line's last two are struck.
+// since its columns are fewer than the addresses they run through: so that one is computed and struck. Of the others only those among the
+// line's last two are.
 ghost use mathlib.Core.Path.{_≡_};
 ghost use Prim.Native.Nat.{ℕ, _+_, _-_, _<_, _≤_};
 ghost use mathlib.Core.Bool.{true};

@@ -16,9 +16,9 @@ use Rattle.controller.specs.Writes.{keptOf}
 use Rattle.frames.proofs.Reached.{reached-within}
 use Rattle.locator.specs.Locate.{locateOf}
 use Rattle.demand.specs.Demand.{Demand3Reached}
-use Rattle.demand.specs.Shortcut.{WithinALine}
+use Rattle.demand.specs.Latches.{EveryStrike}
 use Rattle.demand.proofs.Demand.{demand3-reached}
-use Rattle.demand.proofs.Shortcut.{within-a-line}
+use Rattle.demand.proofs.Latches.{every-strike}
 use Rattle.control.specs.Write.{isControlOf, OneBitWritten}
 use Rattle.control.specs.declared.bits.Control.{Control}
 use Rattle.control.proofs.Written.{one-bit-written}
@@ -226,8 +226,8 @@ demand-three = demand3-reached
 pub strike-located : States locator·locate.Post (λ κs a r s. r ≡ locateOf (a .0))
 strike-located κs a r s p = p
 
-pub latch-within-a-line : WithinALine
-latch-within-a-line = within-a-line
+pub strike-latches : EveryStrike
+strike-latches = every-strike
 
 pub cases-settled : Settled
 cases-settled = table

@@ -1,4 +1,4 @@
--- The premises of demand 3, met by settled cases. Assumes nothing.
+-- The premises of demand 3, met by settled cases and in their settings. Assumes nothing.
 use Prim.Native.Nat.{ℕ, _+_, _*_, _/_, _%_, _≤_, _<_}
 use mathlib.Core.Path.{_≡_, refl, ap, ap₂, sym, _∙_}
 use mathlib.Core.Bool.{true}

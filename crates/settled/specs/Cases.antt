@@ -1,5 +1,5 @@
 -- The settled cases as one table: registers written, a reset, clocks, a strike or none, and what is seen then. Cases a to j are those of
--- document 01, "Settled cases", with the latch of e as request W5 has it; k to z are strikes at the end of a line, by that request.
+-- document 01, "Settled cases", with the latch of e as request W5 has it; k to z are of that request.
 use Prim.Native.Nat.{ℕ}
 use mathlib.Core.Path.{_≡_}
 use mathlib.Core.List.{List, [], _∷_, _++_, map}
@@ -84,9 +84,10 @@ ofDocument =
 -- k to z, in order. The last two columns of a full picture: on a middle line (k, l), on a row's last line (m, n), on the last line of the
 -- last row with adjust lines after it (o, p) and with a new frame after it (q, r), and with a row below the picture after it (s, t). Lines
 -- of one character and of two (u, v), rows of one line (w), row and column addressing where the high part wraps (x) and the low byte (y),
--- and a picture one column too wide for the last sentence of demand 3 (z).
-abbrev pub atLineEnds : List (List ℕ)
-atLineEnds =
+-- and a picture one column too wide for what demand 3 says of 8 (z). In o, p and s to v the cell fits by one of its lines alone; in m, n
+-- and q another cell fits, through the end of its own line.
+abbrev pub ofRequest : List (List ℕ)
+ofRequest =
     inFull 2 3 2 6
     ∷ inFull 2 3 2 7
     ∷ inFull 2 3 2 10
@@ -107,7 +108,7 @@ atLineEnds =
 
 -- all of them
 abbrev pub cases : List (List ℕ)
-cases = ofDocument ++ atLineEnds
+cases = ofDocument ++ ofRequest
 
 -- frame, picture, adjusting, MA, latch, refusal, row, column
 abbrev pub settled : List (List ℕ)

@@ -1,4 +1,5 @@
--- Demand 3 promises nothing empty: each of its premises is met, by a settled case that register writes lead to from power-on.
+-- Demand 3 promises nothing empty: each of its premises is met, by a settled case or in its setting, which register writes lead to from
+-- power-on.
 use Prim.Native.Nat.{ℕ, suc, _+_, _≤_}
 use mathlib.Core.Path.{_≡_}
 use mathlib.Core.Bool.{true, false}

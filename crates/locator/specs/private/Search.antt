@@ -1,5 +1,5 @@
 -- How the locator goes over the cells (document 01, "The locator", and request W5): row by row, and in a row by two parts. In the first
--- part the line goes on for two characters more, and only one column can fit; the second has the line's last two columns.
+-- part the line goes on for two characters more, and only one column can fit; the second has what the picture has of the line's last two.
 use Prim.Native.Nat.{ℕ, _+_, _-_, _%_, min}
 use mathlib.Core.Bool.{Bool}
 use mathlib.Core.List.{map}
