@@ -2,6 +2,7 @@
 use Prim.Native.Nat.{ℕ, _+_, _%_, _<_, _≤_}
 use mathlib.Core.Path.{_≡_, refl, ap, sym, _∙_}
 use mathlib.Core.Bool.{Bool, true, false}
+use mathlib.Core.Logic.{_⊎_, inl, inr, ⊎-elim}
 use native.Mathlib.Omega.{arith}
 use lib.Dec.{eqb}
 use borrow.Author.Tests.{eqb-true, eqb-false}
@@ -55,7 +56,7 @@ two-back r start b c row other x y = go (byRowsOf r)
     go true e = omega arith
     go false e = omega arith
 
--- the lines of a row that are two or more before its last: none of them latches another row's address, so they latch alike
+-- the lines of a row that two character times do not lead out of it: they latch alike
 module _ (r : Registers) where
   -- another place in the row
   abbrev inRow : Scan → (column line : ℕ) → Scan
@@ -73,24 +74,29 @@ module _ (r : Registers) where
   unfoldable turned : ℕ → ℕ
   turned column = if eqb column (reg r 0) then 0 else countedOf Eight column 1
 
-  next-in-row : (s : Scan) → s .adjusting ≡ false → (s .line ≡ reg r 9 → ⊥)
-      → (l : ℕ) × (nextOf r s ≡ inRow s (turned (s .column)) l) × (l ≤ s .line + 1)
+  -- a character time anywhere in the row but at the end of its last line: it turns the column, and the line only at the line's end
+  next-in-row : (s : Scan) → s .adjusting ≡ false → (s .column ≡ reg r 0 → s .line ≡ reg r 9 → ⊥)
+      → (l : ℕ) × (nextOf r s ≡ inRow s (turned (s .column)) l) × (l ≤ s .line + 1) × ((turned (s .column) ≡ 0) ⊎ (l ≡ s .line))
   unfolding if_then_else_ turned
   next-in-row s a n = go (eqb (s .column) (reg r 0)) refl
     where
       go : (t : Bool) → eqb (s .column) (reg r 0) ≡ t
-          → (l : ℕ) × (nextOf r s ≡ inRow s (if t then 0 else countedOf Eight (s .column) 1) l) × (l ≤ s .line + 1)
-      go true e = (countedOf Five (s .line) 1, next-down r s (eqb-true _ _ e) a n, omega arith)
-      go false e = (s .line, next-along r s (eqb-false _ _ e), omega arith)
+          → (let column : ℕ = if t then 0 else countedOf Eight (s .column) 1 in
+          (l : ℕ) × (nextOf r s ≡ inRow s column l) × (l ≤ s .line + 1) × ((column ≡ 0) ⊎ (l ≡ s .line)))
+      go true e = (countedOf Five (s .line) 1, next-down r s (eqb-true _ _ e) a (n (eqb-true _ _ e)), omega arith, inl refl)
+      go false e = (s .line, next-along r s (eqb-false _ _ e), omega arith, inr refl)
 
-  latch-in-row : (s : Scan) → s .adjusting ≡ false → s .line + 2 ≤ reg r 9
+  latch-in-row : (s : Scan) → s .adjusting ≡ false → s .line < reg r 9 → (reg r 0 ≡ 0 → s .line + 2 ≤ reg r 9)
       → latchOf r s ≡ addressOf r (s .start) (s .base) (s .row) (turned (turned (s .column)))
   unfolding latchOf maOf
-  latch-in-row s a h =
-      let p = next-in-row s a (omega arith) in
-      let q = next-in-row (inRow s (turned (s .column)) (p .0)) a (omega arith) in
+  latch-in-row s a h k =
+      let p = next-in-row s a (λ c e. omega arith) in
+      let q =
+      next-in-row (inRow s (turned (s .column)) (p .0)) a
+      (λ c l. ⊎-elim (λ (z : turned (s .column) ≡ 0). let w = k (sym c ∙ z) in omega arith) (λ (z : p .0 ≡ s .line). omega arith) (p .3)) in
       ap (maOf r) (ap (nextOf r) (p .1) ∙ q .1)
 
-  pub latch-lines : (s : Scan) → s .adjusting ≡ false → (l m : ℕ) → l + 2 ≤ reg r 9 → m + 2 ≤ reg r 9
+  pub latch-lines : (s : Scan) → s .adjusting ≡ false → (l m : ℕ) → l < reg r 9 → m < reg r 9
+      → (reg r 0 ≡ 0 → l + 2 ≤ reg r 9) → (reg r 0 ≡ 0 → m + 2 ≤ reg r 9)
       → latchOf r (inRow s (s .column) l) ≡ latchOf r (inRow s (s .column) m)
-  latch-lines s a l m h k = latch-in-row (inRow s (s .column) l) a h ∙ sym (latch-in-row (inRow s (s .column) m) a k)
+  latch-lines s a l m h k u v = latch-in-row (inRow s (s .column) l) a h u ∙ sym (latch-in-row (inRow s (s .column) m) a k v)

@@ -11,8 +11,8 @@ use Rattle.basics.specs.Choice.{if_then_else_}
 use Rattle.basics.specs.Count.{count}
 use Rattle.basics.proofs.Counting.{count-append}
 use Rattle.raster.specs.declared.registers.Registers.{Registers}
-use Rattle.locator.specs.Cells.{columnsOf, cellAt, rowCells, cellsFrom, fitsOf, keep, theFit}
-use Rattle.locator.specs.private.Search.{joinedOf, oneFitOf, frontOf, partFitOf, rowFitOf}
+use Rattle.locator.specs.Cells.{cellAt, rowCells, cellsFrom, fitsOf, keep, theFit}
+use Rattle.locator.specs.private.Search.{joinedOf, oneFitOf, partFitOf, rowFitOf}
 use Rattle.locator.specs.declared.cells.Cell.{Cell}
 use Rattle.locator.specs.declared.fit.Fit.{Fit}
 use Rattle.locator.specs.declared.fit.Fit.the-variants.{Free, One, Many}
@@ -131,11 +131,10 @@ module _ (r : Registers) (latch row : ℕ) where
       ∙ parts-joined r latch row a (x - a) 1
       ∙ ap (joinedOf (partFitOf r latch row a (x - a))) (ap (λ (y : ℕ). partFitOf r latch row y 1) here ∙ one-column x)
 
-  -- a whole row by the two parts that the code takes
-  pub whole-row : joinedOf (partFitOf r latch row 0 (frontOf r)) (partFitOf r latch row (frontOf r) (columnsOf r - frontOf r)) ≡ rowFitOf r latch row
-  unfolding rowFitOf
-  whole-row =
-      let all : frontOf r + (columnsOf r - frontOf r) ≡ columnsOf r = omega arith in
-      ap (λ (x : ℕ). joinedOf (partFitOf r latch row 0 (frontOf r)) (partFitOf r latch row x (columnsOf r - frontOf r))) (sym (zero-add (frontOf r)))
-      ∙ sym (parts-joined r latch row 0 (frontOf r) (columnsOf r - frontOf r))
+  -- a row's first n columns by the first m of them and the rest
+  pub split-row : (m n : ℕ) → m ≤ n → joinedOf (partFitOf r latch row 0 m) (partFitOf r latch row m (n - m)) ≡ partFitOf r latch row 0 n
+  split-row m n h =
+      let all : m + (n - m) ≡ n = omega arith in
+      ap (λ (x : ℕ). joinedOf (partFitOf r latch row 0 m) (partFitOf r latch row x (n - m))) (sym (zero-add m))
+      ∙ sym (parts-joined r latch row 0 m (n - m))
       ∙ ap (partFitOf r latch row 0) all

@@ -1,4 +1,4 @@
--- A cell fits by one of its lines, and three of them tell of all. Assumes nothing.
+-- A cell fits by one of its lines, and two or three of them tell of all. Assumes nothing.
 use Prim.Native.Nat.{ℕ, zero, suc, _+_, _-_, _≤_, _<_}
 use mathlib.Core.Path.{_≡_, refl, ap, sym, _∙_}
 use mathlib.Core.Bool.{Bool, true, false, _||_, false≢true}
@@ -7,6 +7,7 @@ use native.Mathlib.Nat.{eq-or-lt-of-le}
 use native.Mathlib.Omega.{arith}
 use borrow.Author.Tests.{eqb-true, eq-eqb}
 use Rattle.basics.specs.Count.{count}
+use Rattle.basics.proofs.Tests.{lt-or-ge}
 use Rattle.raster.specs.Registers.{reg, startOf, rowBaseOf}
 use Rattle.raster.specs.declared.registers.Registers.{Registers}
 use Rattle.facts.specs.Facts.{addressOf}
@@ -90,36 +91,46 @@ module _ (r : Registers) (latch : ℕ) (c : Cell) where
         (λ e. let q = fit-line e in same-line (q .0) 0 (two-columns-on (q .0) ∙ sym (two-columns-on 0)) (eq-eqb _ _ (q .2)))
         (λ e. fitting 0 (omega arith) e)
 
-  -- two or more lines before the row's last all lines latch alike
-  down-to-two : (l m : ℕ) → l + 2 ≤ reg r 9 → m + 2 ≤ reg r 9 → cellLatchOf r c l ≡ cellLatchOf r c m
+  -- lines that two character times do not lead out of the row latch alike: those before the last, or, where a line has one character, two
+  -- or more before it
+  alike : (l m : ℕ) → l < reg r 9 → m < reg r 9 → (reg r 0 ≡ 0 → l + 2 ≤ reg r 9) → (reg r 0 ≡ 0 → m + 2 ≤ reg r 9) → on l ≡ true → on m ≡ true
   unfolding cellLatchOf
-  down-to-two l m h k = latch-lines r (cellScanOf r c 0) refl l m h k
+  alike l m h k u v = same-line l m (latch-lines r (cellScanOf r c 0) refl l m h k u v)
 
-  -- so a line is the last, the one before it, or like the first
-  abbrev three : Bool
-  three = on 0 || on (reg r 9 - 1) || on (reg r 9)
+  -- so the last line and the one before it tell of all, but for the first where a line has one character
+  abbrev near : Bool
+  near = on (reg r 9 - 1) || on (reg r 9)
 
-  of-three : (line : ℕ) → line ≤ reg r 9 → on line ≡ true → three ≡ true
-  of-three line h e =
+  near-fit : near ≡ true → fitsOf r latch c ≡ true
+  near-fit e = ⊎-elim (fitting (reg r 9 - 1) (omega arith)) (fitting (reg r 9) (omega arith)) (either (on (reg r 9 - 1)) (on (reg r 9)) e)
+
+  by-last : (line : ℕ) → line ≤ reg r 9 → on line ≡ true → (line < reg r 9 → on (reg r 9 - 1) ≡ true) → near ≡ true
+  by-last line h e f =
       ⊎-elim
-      (λ (p : line ≡ reg r 9). or-right (on 0 || on (reg r 9 - 1)) (on (reg r 9)) (ap on (sym p) ∙ e))
-      (λ (p : line < reg r 9). or-left (on 0 || on (reg r 9 - 1)) (on (reg r 9)) (before p))
+      (λ (p : line ≡ reg r 9). or-right (on (reg r 9 - 1)) (on (reg r 9)) (ap on (sym p) ∙ e))
+      (λ (p : line < reg r 9). or-left (on (reg r 9 - 1)) (on (reg r 9)) (f p))
       (eq-or-lt-of-le h)
-    where
-      before : line < reg r 9 → (on 0 || on (reg r 9 - 1)) ≡ true
-      before p =
-          ⊎-elim
-          (λ (q : suc line ≡ reg r 9). let z : line ≡ reg r 9 - 1 = omega arith in or-right (on 0) (on (reg r 9 - 1)) (ap on (sym z) ∙ e))
-          (λ (q : suc line < reg r 9). or-left (on 0) (on (reg r 9 - 1)) (same-line line 0 (down-to-two line 0 (omega arith) (omega arith)) e))
-          (eq-or-lt-of-le p)
 
-  pub three-lines : fitsOf r latch c ≡ three
+  pub two-lines : (reg r 0 ≡ 0 → ⊥) → fitsOf r latch c ≡ near
+  unfolding lineFitsOf
+  two-lines n =
+      same-test (fitsOf r latch c) near
+      (λ e.
+      let q = fit-line e in
+      let o = eq-eqb (cellLatchOf r c (q .0)) latch (q .2) in
+      by-last (q .0) (q .1) o (λ p. alike (q .0) (reg r 9 - 1) p (omega arith) (λ z. absurd (n z)) (λ z. absurd (n z)) o))
+      near-fit
+
+  of-three : (line : ℕ) → line ≤ reg r 9 → on line ≡ true → (line + 2 ≤ reg r 9) ⊎ (reg r 9 < line + 2) → (near || on 0) ≡ true
+  of-three line h e (inl p) = or-right near (on 0) (alike line 0 (omega arith) (omega arith) (λ z. p) (λ z. omega arith) e)
+  of-three line h e (inr p) =
+      or-left near (on 0) (by-last line h e (λ q. let z : line ≡ reg r 9 - 1 = omega arith in ap on (sym z) ∙ e))
+
+  pub three-lines : fitsOf r latch c ≡ (near || on 0)
   unfolding lineFitsOf
   three-lines =
-      same-test (fitsOf r latch c) three
-      (λ e. let q = fit-line e in of-three (q .0) (q .1) (eq-eqb _ _ (q .2)))
+      same-test (fitsOf r latch c) (near || on 0)
       (λ e.
-      ⊎-elim
-      (λ p. ⊎-elim (fitting 0 (omega arith)) (fitting (reg r 9 - 1) (omega arith)) (either (on 0) (on (reg r 9 - 1)) p))
-      (fitting (reg r 9) (omega arith))
-      (either (on 0 || on (reg r 9 - 1)) (on (reg r 9)) e))
+      let q = fit-line e in
+      of-three (q .0) (q .1) (eq-eqb _ _ (q .2)) (⊎-elim (λ (p : reg r 9 < q .0 + 2). inr p) (λ (p : q .0 + 2 ≤ reg r 9). inl p) (lt-or-ge (reg r 9) (q .0 + 2))))
+      (λ e. ⊎-elim near-fit (fitting 0 (omega arith)) (either near (on 0) e))

@@ -101,14 +101,16 @@ pub(crate) fn line_fits(r: Registers, base: u16, latch: u16, c: Cell, line: u8) 
     facts::latch(r, cell_scan(r, base, c, line)) == latch
 }
 
-// Whether a strike in a cell, on any of its lines, would leave a latch. Those two or more before the last latch alike, so the first, the
-// last and the one before it tell of all.
+// Whether a strike in a cell, on any of its lines, would leave a latch. The last line may lead to another row, and those before it latch
+// alike; but where a line has one character, the one before the last may lead there too.
 pub(crate) fn cell_fits(r: Registers, base: u16, latch: u16, c: Cell) -> bool
     requires { ⌜ base ≡ rowBaseOf r (c .row) ⌝ }
     ensures { λ b. ⌜ b ≡ fitsOf r latch c ⌝ }
 {
     let last = r.held[9];
-    line_fits(r, base, latch, c, 0)
-        | line_fits(r, base, latch, c, one_less(last))
-        | line_fits(r, base, latch, c, last)
+    let near = line_fits(r, base, latch, c, one_less(last)) | line_fits(r, base, latch, c, last);
+    if r.held[0] == 0 {
+        return near | line_fits(r, base, latch, c, 0);
+    }
+    near
 }

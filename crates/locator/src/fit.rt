@@ -77,12 +77,14 @@ fn only_column(r: Registers, base: u16, latch: u16, row: u8) -> u16
 }
 
 // Which cells of a row fit, of those two or more before the line's end. Their lines latch alike, so the first tells.
-fn front_fit(r: Registers, base: u16, latch: u16, row: u8) -> Fit
+fn front_fit(r: Registers, base: u16, latch: u16, row: u8, n: u8) -> Fit
     requires { ⌜ base ≡ rowBaseOf r row ⌝ }
-    ensures { λ q. ⌜ q ≡ partFitOf r latch row 0 (frontOf r) ⌝ }
+    requires { ⌜ n ≡ frontOf r ⌝ }
+    requires { ⌜ n < 255 ⌝ }
+    ensures { λ q. ⌜ q ≡ partFitOf r latch row 0 n ⌝ }
 {
     let k = only_column(r, base, latch, row);
-    if k < front(r) as u16 {
+    if k < n as u16 {
         let c = Cell {
             row,
             column: k as u8,
@@ -92,14 +94,13 @@ fn front_fit(r: Registers, base: u16, latch: u16, row: u8) -> Fit
     Fit::Free
 }
 
-// Which of the rest fit: two columns at the most.
-fn ends_fit(r: Registers, base: u16, latch: u16, row: u8) -> Fit
+// Which cells of a row fit, from one column on up to below another.
+fn part_fit(r: Registers, base: u16, latch: u16, row: u8, a: u8, n: u8) -> Fit
     requires { ⌜ base ≡ rowBaseOf r row ⌝ }
-    ensures { λ q. ⌜ q ≡ partFitOf r latch row (frontOf r) (columnsOf r - frontOf r) ⌝ }
+    ensures { λ q. ⌜ q ≡ partFitOf r latch row a (n - a) ⌝ }
 {
-    let n = columns(r);
     let mut best = Fit::Free;
-    let mut x = front(r);
+    let mut x = a;
     while x < n {
         let c = Cell { row, column: x };
         best = best.join(one_fit(cell_fits(r, base, latch, c), c));
@@ -108,12 +109,19 @@ fn ends_fit(r: Registers, base: u16, latch: u16, row: u8) -> Fit
     best
 }
 
-// Which cells of a row fit.
-fn row_fit(r: Registers, base: u16, latch: u16, row: u8) -> Fit
+// Which cells of a row fit: of m columns in front, and of the others up to n.
+fn row_fit(r: Registers, base: u16, latch: u16, row: u8, m: u8, n: u8) -> Fit
     requires { ⌜ base ≡ rowBaseOf r row ⌝ }
+    requires { ⌜ m ≡ frontOf r ⌝ }
+    requires { ⌜ m < 255 ⌝ }
+    requires { ⌜ n ≡ columnsOf r ⌝ }
     ensures { λ q. ⌜ q ≡ rowFitOf r latch row ⌝ }
 {
-    front_fit(r, base, latch, row).join(ends_fit(r, base, latch, row))
+    let fit = front_fit(r, base, latch, row, m);
+    if m < n {
+        return fit.join(part_fit(r, base, latch, row, m, n));
+    }
+    fit
 }
 
 // Which cells of the picture fit. A row's base is carried here from the row above it, and handed down.
@@ -121,11 +129,13 @@ pub(crate) fn picture_fit(r: Registers, latch: u16) -> Fit
     ensures { λ q. ⌜ q ≡ fitOf r latch ⌝ }
 {
     let n = rows(r);
+    let m = front(r);
+    let all = columns(r);
     let mut best = Fit::Free;
     let mut base = first_base(r);
     let mut k: u8 = 0;
     while k < n {
-        best = best.join(row_fit(r, base, latch, k));
+        best = best.join(row_fit(r, base, latch, k, m, all));
         base = next_base(r, base);
         k += 1;
     }

@@ -5,7 +5,7 @@ use second::cuts::cuts_text;
 use crate::listing::{SETTLED_INPUT, SETTLED_LISTING};
 use crate::places::UNTOUCHED;
 use crate::program::prints_with;
-use crate::room::{STRIKE, STRUCK};
+use crate::room::{CLOCK, CLOCKED, FETCH};
 
 pub const CLOSE: &[u8] = &[2];
 
@@ -31,10 +31,10 @@ fn a_list_of_no_calls_prints_nothing() {
 fn a_cut_prints_its_counts_and_its_whole_output() {
     gives(&[&cut(0, &[])], "0000000000000000\n");
     gives(&[&cut(3, &[])], "0000000000000000\na5a5a5\n");
-    let one = String::from("0000040001000000\n") + STRUCK;
-    gives(&[&cut(8, &STRIKE)], &one);
-    gives(&[&cut(9, &STRIKE)], &(one.clone() + "a5\n"));
-    gives(&[&cut(18, &STRIKE)], &(one + UNTOUCHED + "a5a5\n"));
+    let one = String::from("0000040001000000\n") + CLOCKED;
+    gives(&[&cut(8, &CLOCK)], &one);
+    gives(&[&cut(9, &CLOCK)], &(one.clone() + "a5\n"));
+    gives(&[&cut(18, &CLOCK)], &(one + UNTOUCHED + "a5a5\n"));
 }
 
 #[test]
@@ -43,7 +43,7 @@ fn closing_prints_its_counts_alone() {
     for held in 1..4 {
         let first = format!("00000{held}0000000000\n");
         let expected = first + "0300000000000000\n";
-        gives(&[&cut(0, &STRIKE[..held]), CLOSE], &expected);
+        gives(&[&cut(0, &CLOCK[..held]), CLOSE], &expected);
     }
 }
 
@@ -71,7 +71,7 @@ fn the_settled_batch_in_two_cuts() {
 
 #[test]
 fn a_call_without_room_made_again_with_the_rest() {
-    let two = STRIKE.repeat(2);
+    let two = [CLOCK, FETCH].concat();
     let calls = [
         cut(0, &two[..3]),
         cut(7, &two[3..]),
@@ -83,9 +83,9 @@ fn a_call_without_room_made_again_with_the_rest() {
     let expected = [
         "0000030000000000\n",
         "0400000000000000\na5a5a5a5a5a5a5\n",
-        "0400010001000000\n0400000000000000\n",
+        "0400010001000000\n0300000000100000\n",
         "0400000000000000\na5a5a5a5a5a5a5\n",
-        "0000040001000000\n0400000000000000\n",
+        "0000040001000000\n0700000100010001\n",
         "0000000000000000\n",
     ];
     gives(&[&calls.concat()], &expected.concat());
@@ -94,12 +94,12 @@ fn a_call_without_room_made_again_with_the_rest() {
 #[test]
 fn calls_after_a_closing_are_made_and_end_with_12() {
     let calls = [
-        cut(0, &STRIKE[..2]),
+        cut(0, &CLOCK[..2]),
         CLOSE.to_vec(),
         cut(0, &[]),
-        cut(10, &STRIKE[2..]),
+        cut(10, &CLOCK[2..]),
         CLOSE.to_vec(),
-        cut(7, &STRIKE),
+        cut(7, &CLOCK),
     ];
     let expected = [
         "0000020000000000\n",
@@ -123,11 +123,11 @@ fn each_list_has_a_fresh_line() {
 
 #[test]
 fn a_room_above_8192_counts_as_8192() {
-    let one = String::from("0000040001000000\n") + STRUCK + &UNTOUCHED.repeat(1_023);
+    let one = String::from("0000040001000000\n") + CLOCKED + &UNTOUCHED.repeat(1_023);
     let closed = String::from("0c00000000000000\n") + &UNTOUCHED.repeat(1_024);
     let closing = "0000000000000000\n";
     for room in [8_192, 8_193, 8_200, 32_768, u16::MAX] {
-        let calls: [&[u8]; 3] = [&cut(room, &STRIKE), CLOSE, &cut(room, &STRIKE)];
+        let calls: [&[u8]; 3] = [&cut(room, &CLOCK), CLOSE, &cut(room, &CLOCK)];
         gives(&calls, &[&one, closing, &closed].concat());
     }
     let below = String::from("0000000000000000\n") + &UNTOUCHED.repeat(1_023) + "a5a5a5a5a5a5a5\n";

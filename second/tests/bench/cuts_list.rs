@@ -1,7 +1,7 @@
 //! What is a list of calls and what is none.
 
 use crate::cuts::{cut, gives, CLOSE};
-use crate::room::STRIKE;
+use crate::room::{CLOCK, CLOCKED};
 
 fn is_no_list(calls: &[&[u8]]) {
     gives(calls, "no call\n");
@@ -13,14 +13,14 @@ fn any_other_byte_where_a_call_should_begin_is_no_call() {
         is_no_list(&[&[byte]]);
         is_no_list(&[&[byte, 0, 8, 0, 0]]);
         is_no_list(&[CLOSE, &[byte]]);
-        is_no_list(&[&cut(8, &STRIKE), &[byte]]);
-        is_no_list(&[&[byte], &cut(8, &STRIKE)]);
+        is_no_list(&[&cut(8, &CLOCK), &[byte]]);
+        is_no_list(&[&[byte], &cut(8, &CLOCK)]);
     }
 }
 
 #[test]
 fn a_head_or_a_cut_broken_off_is_no_call() {
-    let whole = cut(8, &STRIKE);
+    let whole = cut(8, &CLOCK);
     for length in 1..whole.len() {
         is_no_list(&[&whole[..length]]);
         is_no_list(&[&whole, &whole[..length]]);
@@ -32,10 +32,10 @@ fn a_head_or_a_cut_broken_off_is_no_call() {
 
 #[test]
 fn bytes_past_a_cut_are_the_next_call() {
-    let one = "0000040001000000\n0400000000000000\n";
-    is_no_list(&[&[1, 0, 8, 0, 4], &STRIKE, &[0]]);
+    let one = "0000040001000000\n0300000000100000\n";
+    is_no_list(&[&[1, 0, 8, 0, 4], &CLOCK, &[0]]);
     gives(
-        &[&[1, 0, 8, 0, 4], &STRIKE, CLOSE],
+        &[&[1, 0, 8, 0, 4], &CLOCK, CLOSE],
         &(String::from(one) + "0000000000000000\n"),
     );
     // The cut of length 1 swallows the byte that would have closed the line.
@@ -56,10 +56,10 @@ fn a_list_of_4096_bytes_is_made_and_a_longer_one_is_none() {
 
 #[test]
 fn the_longest_cut_has_4091_bytes() {
-    let longest = [&STRIKE.repeat(1_022)[..], &[4, 0, 0]].concat();
-    let whole = String::from("000ffb03fe000000\n") + &"0400000000000000\n".repeat(1_022);
+    let longest = [&CLOCK.repeat(1_022)[..], &CLOCK[..3]].concat();
+    let whole = String::from("000ffb03fe000000\n") + &CLOCKED.repeat(1_022);
     gives(&[&cut(8_176, &longest)], &whole);
-    let longer = STRIKE.repeat(1_023);
+    let longer = CLOCK.repeat(1_023);
     is_no_list(&[&cut(8_176, &longer)]);
     is_no_list(&[&cut(8_176, &longest), CLOSE]);
 }

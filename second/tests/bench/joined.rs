@@ -78,7 +78,7 @@ fn cuts_of_every_one_length() {
 
 #[test]
 fn every_split_of_three_records_into_three_cuts() {
-    let bytes = [[3, 0, 1, 0], [4, 0, 0, 0], [6, 0xA0, 0, 1]].concat();
+    let bytes = [[3, 0, 1, 0], [7, 0, 1, 0], [6, 0xA0, 0, 1]].concat();
     for first in 0..=bytes.len() {
         for second in first..=bytes.len() {
             equals_one_replay(&[&bytes[..first], &bytes[first..second], &bytes[second..]]);

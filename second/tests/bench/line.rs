@@ -2,13 +2,13 @@
 
 use second::{replay, Bench, CutTaken, Line, LineEnding};
 
-use crate::room::STRIKE;
+use crate::room::{CLOCK, FETCH};
 use crate::trial::{Trial, SETTING_A};
 
 pub const UNTOUCHED: u8 = 0xEE;
 
-/// The answer to a strike on the fresh chip, which shows address 0 at all times.
-const STRUCK: [u8; 8] = [4, 0, 0, 0, 0, 0, 0, 0];
+/// The answer to a character clock on the fresh chip: VSYNC is high.
+const CLOCKED: [u8; 8] = [3, 0, 0, 0, 0, 0x10, 0, 0];
 
 pub fn fresh_line() -> Line {
     Line::open(Bench::fresh())
@@ -69,7 +69,7 @@ fn a_line_is_opened_on_the_chips_given_with_nothing_held() {
 fn an_empty_cut_ends_with_0_and_changes_nothing() {
     for held in 0..4 {
         for room in [0, 7, 8, 20] {
-            let mut line = line_holding(&STRIKE[..held]);
+            let mut line = line_holding(&CLOCK[..held]);
             let before = line.clone();
             assert_eq!(
                 call(&mut line, &[], room),
@@ -103,22 +103,21 @@ fn bytes_of_no_whole_record_are_all_taken_and_held_whatever_the_room() {
 fn the_bytes_that_make_the_held_ones_whole_are_counted_without_these() {
     for held in 0..4 {
         let mut line = fresh_line();
-        call(&mut line, &STRIKE[..held], 0);
-        let (told, output) = call(&mut line, &STRIKE[held..], 11);
+        call(&mut line, &CLOCK[..held], 0);
+        let (told, output) = call(&mut line, &CLOCK[held..], 11);
         assert_eq!(told, (0, 4 - held, 1));
-        assert_eq!(output, written_then_untouched(&STRUCK, 11));
+        assert_eq!(output, written_then_untouched(&CLOCKED, 11));
         assert!(line.held().is_empty());
     }
 }
 
 #[test]
 fn a_held_record_without_room_stays_held_and_no_byte_is_taken() {
-    let record = [3, 0, 1, 0];
     for held in 1..4 {
         for room in 0..8 {
-            let mut line = line_holding(&record[..held]);
+            let mut line = line_holding(&CLOCK[..held]);
             let before = line.clone();
-            let cut = [&record[held..], &STRIKE, &[255; 2]].concat();
+            let cut = [&CLOCK[held..], &FETCH, &[255; 2]].concat();
             for length in 4 - held..=cut.len() {
                 let expected = ((4, 0, 0), vec![UNTOUCHED; room]);
                 assert_eq!(call(&mut line, &cut[..length], room), expected);
@@ -136,15 +135,15 @@ fn a_later_record_without_room_leaves_its_bytes_in_the_cut() {
         for room in 8..16 {
             for extra in 0..4 {
                 let mut line = fresh_line();
-                call(&mut line, &STRIKE[..held], 0);
-                let cut = [&STRIKE[held..], &[3, 0, 1, 0], &[255; 3][..extra]].concat();
+                call(&mut line, &CLOCK[..held], 0);
+                let cut = [&CLOCK[held..], &FETCH, &[255; 3][..extra]].concat();
                 let (told, output) = call(&mut line, &cut, room);
                 assert_eq!(told, (4, 4 - held, 1));
-                assert_eq!(output, written_then_untouched(&STRUCK, room));
+                assert_eq!(output, written_then_untouched(&CLOCKED, room));
                 assert!(line.held().is_empty());
                 assert_eq!(
                     *line.bench(),
-                    replay(Bench::fresh(), &STRIKE, &mut [0; 8]).bench
+                    replay(Bench::fresh(), &CLOCK, &mut [0; 8]).bench
                 );
             }
         }
@@ -155,10 +154,10 @@ fn a_later_record_without_room_leaves_its_bytes_in_the_cut() {
 fn bytes_left_over_after_the_last_answer_with_room_are_held() {
     for extra in 0..4 {
         let mut line = fresh_line();
-        let cut = [&STRIKE, &[255; 3][..extra]].concat();
+        let cut = [&CLOCK, &[255; 3][..extra]].concat();
         let (told, output) = call(&mut line, &cut, 8);
         assert_eq!(told, (0, 4 + extra, 1));
-        assert_eq!(output, STRUCK);
+        assert_eq!(output, CLOCKED);
         assert_eq!(line.held(), vec![255; extra]);
     }
 }
@@ -175,7 +174,7 @@ fn room_is_asked_for_before_a_record_is_judged() {
 #[test]
 fn refused_records_are_answered_and_the_call_goes_on() {
     let mut line = fresh_line();
-    let cut = [[0xAB, 0, 0, 0], [3, 0, 0, 9], [9, 0, 0, 0], STRIKE].concat();
+    let cut = [[0xAB, 0, 0, 0], [3, 0, 0, 9], [9, 0, 0, 0], CLOCK].concat();
     assert_eq!(call(&mut line, &cut[..1], 0).0, (0, 1, 0));
     let (told, output) = call(&mut line, &cut[1..], 32);
     assert_eq!(told, (0, 15, 4));
@@ -183,7 +182,7 @@ fn refused_records_are_answered_and_the_call_goes_on() {
     refused[0][..2].copy_from_slice(&[0xAB, 1]);
     refused[1][..2].copy_from_slice(&[3, 2]);
     refused[2][..2].copy_from_slice(&[9, 5]);
-    assert_eq!(output, [&refused.concat()[..], &STRUCK].concat());
+    assert_eq!(output, [&refused.concat()[..], &CLOCKED].concat());
 }
 
 #[test]
@@ -201,8 +200,8 @@ fn closing_gives_0_with_nothing_held_and_3_with_one_to_three_bytes() {
 #[test]
 fn closing_after_ending_4_goes_by_the_held_bytes_alone() {
     for (held, number) in [(0, 0), (1, 3), (2, 3), (3, 3)] {
-        let mut line = line_holding(&STRIKE[..held]);
-        assert_eq!(call(&mut line, &STRIKE[held..], 7).0, (4, 0, 0));
+        let mut line = line_holding(&CLOCK[..held]);
+        assert_eq!(call(&mut line, &CLOCK[held..], 7).0, (4, 0, 0));
         assert_eq!(line.close().number(), number, "{held} held");
     }
 }
@@ -210,11 +209,11 @@ fn closing_after_ending_4_goes_by_the_held_bytes_alone() {
 #[test]
 fn a_call_after_closing_ends_with_12_before_all_else_and_changes_nothing() {
     for held in 0..4 {
-        let mut line = line_holding(&STRIKE[..held]);
+        let mut line = line_holding(&CLOCK[..held]);
         line.close();
         let closed = line.clone();
         for length in 0..12 {
-            let cut = &STRIKE.repeat(3)[..length];
+            let cut = &CLOCK.repeat(3)[..length];
             for room in [0, 7, 8, 30] {
                 let expected = ((12, 0, 0), vec![UNTOUCHED; room]);
                 assert_eq!(call(&mut line, cut, room), expected);
@@ -227,7 +226,7 @@ fn a_call_after_closing_ends_with_12_before_all_else_and_changes_nothing() {
 #[test]
 fn a_second_closing_ends_with_12_and_changes_nothing() {
     for held in 0..4 {
-        let mut line = line_holding(&STRIKE[..held]);
+        let mut line = line_holding(&CLOCK[..held]);
         line.close();
         let closed = line.clone();
         for _ in 0..3 {

@@ -37,8 +37,8 @@ fn an_empty_batch_lists_only_its_end() {
 fn left_over_bytes_end_with_3() {
     assert_eq!(listing(&[4]), "end 3\n");
     assert_eq!(
-        listing(&[4, 0, 0, 0, 255, 255, 255]),
-        "0400000000000000\nend 3\n"
+        listing(&[3, 0, 1, 0, 255, 255, 255]),
+        "0300000000100000\nend 3\n"
     );
 }
 
@@ -67,9 +67,9 @@ fn reads_are_listed_as_driven_or_not() {
 
 #[test]
 fn the_longest_batch_is_listed_and_a_longer_one_is_not() {
-    let mut expected = "0400000000000000\n".repeat(1_024);
+    let mut expected = "0300000000100000\n".repeat(1_024);
     expected.push_str("end 0\n");
-    let longest = [4, 0, 0, 0].repeat(1_024);
+    let longest = [3, 0, 1, 0].repeat(1_024);
     assert_eq!(listing(&longest), expected);
     let longer = [&longest[..], &[0]].concat();
     assert_eq!(listing(&longer), "too long\n");

@@ -6,7 +6,7 @@ use std::process::{Command, Output, Stdio};
 use second::mode::HELP;
 
 use crate::listing::{SETTLED_INPUT, SETTLED_LISTING};
-use crate::room::input;
+use crate::room::{input, CLOCK, FETCH};
 
 fn run(arguments: &[&str], input: &[u8]) -> Output {
     let mut child = Command::new(env!("CARGO_BIN_EXE_second"))
@@ -70,13 +70,13 @@ fn the_program_shows_the_settled_answers_in_their_exact_room_and_one_byte_less()
 
 #[test]
 fn the_program_takes_small_rooms_and_larger_ones() {
-    let batch = [4, 0, 0, 0, 4, 0, 0, 0];
+    let batch = [CLOCK, FETCH].concat();
     prints_room(&input(0, &batch), "0400000000000000\n");
     prints_room(&input(7, &batch), "0400000000000000\na5a5a5a5a5a5a5\n");
-    let one = "0400040001000000\n0400000000000000\n";
+    let one = "0400040001000000\n0300000000100000\n";
     prints_room(&input(8, &batch), one);
     prints_room(&input(9, &batch), &(String::from(one) + "a5\n"));
-    let two = "0000080002000000\n0400000000000000\n0400000000000000\na5a5a5a5a5a5a5a5\na5\n";
+    let two = "0000080002000000\n0300000000100000\n0700000100010001\na5a5a5a5a5a5a5a5\na5\n";
     prints_room(&input(25, &batch), two);
 }
 
@@ -84,10 +84,11 @@ fn the_program_takes_small_rooms_and_larger_ones() {
 fn the_program_ends_with_3_with_room_and_without() {
     prints_room(&input(0, &[4]), "0300000000000000\n");
     prints_room(&input(7, &[4, 0, 0]), "0300000000000000\na5a5a5a5a5a5a5\n");
-    let one = "0300040001000000\n0400000000000000\n";
-    prints_room(&input(8, &[4, 0, 0, 0, 4, 0]), one);
+    let batch = [&FETCH, &CLOCK[..2]].concat();
+    let one = "0300040001000000\n0700000100010001\n";
+    prints_room(&input(8, &batch), one);
     let untouched = String::from(one) + "a5a5a5a5a5a5a5a5\n";
-    prints_room(&input(16, &[4, 0, 0, 0, 4, 0]), &untouched);
+    prints_room(&input(16, &batch), &untouched);
 }
 
 #[test]

@@ -4,9 +4,15 @@ use second::room::room_text;
 
 use crate::listing::{SETTLED_INPUT, SETTLED_LISTING};
 
-/// A strike on the fresh chip, which shows address 0 at all times, and its answer.
-pub const STRIKE: [u8; 4] = [4, 0, 0, 0];
-pub const STRUCK: &str = "0400000000000000\n";
+/// A character clock on the fresh chip and its answer, which is the same at every
+/// later clock: a new frame at address 0, with VSYNC high and nothing else.
+pub const CLOCK: [u8; 4] = [3, 0, 1, 0];
+pub const CLOCKED: &str = "0300000000100000\n";
+
+/// The first display fetch on the fresh chip and its answer: address 1, in row 1
+/// of the memory, with RAM access.
+pub const FETCH: [u8; 4] = [7, 0, 1, 0];
+pub const FETCHED: &str = "0700000100010001\n";
 
 /// The room's two bytes and the batch after them.
 pub fn input(room: u16, batch: &[u8]) -> Vec<u8> {
@@ -53,36 +59,36 @@ fn each_room_takes_the_answers_that_fit_and_leaves_the_rest_untouched() {
 
 #[test]
 fn no_byte_of_room_shows_the_counts_alone() {
-    gives(0, &STRIKE, "0400000000000000\n");
+    gives(0, &CLOCK, "0400000000000000\n");
     gives(0, &[], "0000000000000000\n");
 }
 
 #[test]
 fn rooms_around_one_answer() {
-    let batch = STRIKE.repeat(2);
+    let batch = [CLOCK, FETCH].concat();
     gives(7, &batch, "0400000000000000\na5a5a5a5a5a5a5\n");
-    gives(8, &batch, "0400040001000000\n0400000000000000\n");
-    gives(9, &batch, "0400040001000000\n0400000000000000\na5\n");
+    gives(8, &batch, "0400040001000000\n0300000000100000\n");
+    gives(9, &batch, "0400040001000000\n0300000000100000\na5\n");
 }
 
 #[test]
 fn one_record_fills_eight_bytes_and_ends_with_0() {
-    gives(8, &STRIKE, "0000040001000000\n0400000000000000\n");
-    gives(9, &STRIKE, "0000040001000000\n0400000000000000\na5\n");
+    gives(8, &CLOCK, "0000040001000000\n0300000000100000\n");
+    gives(9, &CLOCK, "0000040001000000\n0300000000100000\na5\n");
 }
 
 #[test]
 fn more_room_than_needed_is_left_untouched() {
-    let expected = "0000040001000000\n0400000000000000\na5a5a5a5a5a5a5a5\na5a5a5a5\n";
-    gives(20, &STRIKE, expected);
+    let expected = "0000040001000000\n0300000000100000\na5a5a5a5a5a5a5a5\na5a5a5a5\n";
+    gives(20, &CLOCK, expected);
     gives(10, &[], "0000000000000000\na5a5a5a5a5a5a5a5\na5a5\n");
 }
 
 #[test]
 fn a_broken_record_ends_with_3_when_there_is_room() {
-    let expected = "0300040001000000\n0400000000000000\na5a5a5a5a5a5a5a5\n";
+    let expected = "0300040001000000\n0300000000100000\na5a5a5a5a5a5a5a5\n";
     for extra in 1..4 {
-        let batch = [&STRIKE[..], &[255; 3][..extra]].concat();
+        let batch = [&CLOCK[..], &[255; 3][..extra]].concat();
         gives(16, &batch, expected);
     }
 }
@@ -93,19 +99,19 @@ fn a_broken_record_ends_with_3_also_without_room() {
         let broken = &[3, 0, 5][..extra];
         gives(0, broken, "0300000000000000\n");
         gives(7, broken, "0300000000000000\na5a5a5a5a5a5a5\n");
-        let batch = [&STRIKE[..], broken].concat();
-        gives(8, &batch, "0300040001000000\n0400000000000000\n");
+        let batch = [&CLOCK[..], broken].concat();
+        gives(8, &batch, "0300040001000000\n0300000000100000\n");
         gives(
             15,
             &batch,
-            "0300040001000000\n0400000000000000\na5a5a5a5a5a5a5\n",
+            "0300040001000000\n0300000000100000\na5a5a5a5a5a5a5\n",
         );
     }
 }
 
 #[test]
 fn a_whole_record_without_room_ends_with_4_though_a_broken_one_follows() {
-    let batch = [&STRIKE[..], &[4]].concat();
+    let batch = [&CLOCK[..], &[4]].concat();
     gives(7, &batch, "0400000000000000\na5a5a5a5a5a5a5\n");
 }
 
@@ -130,10 +136,10 @@ fn fewer_than_two_bytes_name_no_room() {
 
 #[test]
 fn the_longest_batch_is_taken_and_a_longer_one_is_not() {
-    let longest = STRIKE.repeat(1_024);
-    let whole = String::from("0010000400000000\n") + &STRUCK.repeat(1_024);
+    let longest = CLOCK.repeat(1_024);
+    let whole = String::from("0010000400000000\n") + &CLOCKED.repeat(1_024);
     gives(8_192, &longest, &whole);
-    let short = String::from("040ffc03ff000000\n") + &STRUCK.repeat(1_023) + "a5a5a5a5a5a5a5\n";
+    let short = String::from("040ffc03ff000000\n") + &CLOCKED.repeat(1_023) + "a5a5a5a5a5a5a5\n";
     gives(8_191, &longest, &short);
     for room in [0, 8, 8_192, u16::MAX] {
         let longer = [&longest[..], &[0]].concat();
@@ -144,10 +150,10 @@ fn the_longest_batch_is_taken_and_a_longer_one_is_not() {
 #[test]
 fn a_room_above_8192_counts_as_8192() {
     let empty = String::from("0000000000000000\n") + &"a5a5a5a5a5a5a5a5\n".repeat(1_024);
-    let one = String::from("0000040001000000\n") + STRUCK + &"a5a5a5a5a5a5a5a5\n".repeat(1_023);
+    let one = String::from("0000040001000000\n") + CLOCKED + &"a5a5a5a5a5a5a5a5\n".repeat(1_023);
     for room in [8_192, 8_193, 8_200, 32_768, u16::MAX] {
         gives(room, &[], &empty);
-        gives(room, &STRIKE, &one);
+        gives(room, &CLOCK, &one);
     }
     let below = String::from("0000000000000000\n")
         + &"a5a5a5a5a5a5a5a5\n".repeat(1_023)

@@ -11,7 +11,7 @@ use second::serial::{serial, SerialFailure};
 
 use crate::listing::{SETTLED_INPUT, SETTLED_LISTING};
 use crate::replay::batch;
-use crate::room::{STRIKE, STRUCK};
+use crate::room::{CLOCK, CLOCKED, FETCH};
 
 /// What has been flushed, and at each read how much of it there was.
 #[derive(Default)]
@@ -90,9 +90,9 @@ fn no_byte_at_all_prints_only_the_end() {
 #[test]
 fn one_to_three_bytes_print_end_3() {
     for length in 1..4 {
-        assert_eq!(printed(&[&STRIKE[..length]]).0, "end 3\n");
-        let expected = String::from(STRUCK) + "end 3\n";
-        assert_eq!(printed(&[&STRIKE, &STRIKE[..length]]).0, expected);
+        assert_eq!(printed(&[&CLOCK[..length]]).0, "end 3\n");
+        let expected = String::from(CLOCKED) + "end 3\n";
+        assert_eq!(printed(&[&CLOCK, &CLOCK[..length]]).0, expected);
     }
 }
 
@@ -130,13 +130,13 @@ fn each_answer_is_printed_before_the_next_read() {
 
 #[test]
 fn more_bytes_than_the_listing_takes_are_all_answered() {
-    let pieces = vec![&STRIKE[..]; 2_000];
-    let expected = STRUCK.repeat(2_000) + "end 0\n";
+    let pieces = vec![&CLOCK[..]; 2_000];
+    let expected = CLOCKED.repeat(2_000) + "end 0\n";
     assert_eq!(printed(&pieces).0, expected);
-    let long = STRIKE.repeat(10_000);
+    let long = CLOCK.repeat(10_000);
     let mut output = Vec::new();
     serial(&long[..], &mut output).expect("a slice is read without failure");
-    let expected = STRUCK.repeat(10_000) + "end 0\n";
+    let expected = CLOCKED.repeat(10_000) + "end 0\n";
     assert_eq!(output, expected.as_bytes());
 }
 
@@ -144,16 +144,16 @@ fn more_bytes_than_the_listing_takes_are_all_answered() {
 fn a_failed_read_leaves_the_answers_printed_and_prints_no_end() {
     for length in 0..4 {
         let (result, seen) = run(vec![
-            Ok(STRIKE.to_vec()),
-            Ok(STRIKE[..length + 1].to_vec()),
+            Ok(CLOCK.to_vec()),
+            Ok(CLOCK[..length + 1].to_vec()),
             Err(ErrorKind::ConnectionReset.into()),
-            Ok(STRIKE.to_vec()),
+            Ok(CLOCK.to_vec()),
         ]);
         let Err(SerialFailure::Reading(error)) = result else {
             panic!("the reading has failed");
         };
         assert_eq!(error.kind(), ErrorKind::ConnectionReset);
-        assert_eq!(seen.text, STRUCK.repeat(1 + (length + 1) / 4));
+        assert_eq!(seen.text, CLOCKED.repeat(1 + (length + 1) / 4));
     }
 }
 
@@ -161,26 +161,26 @@ fn a_failed_read_leaves_the_answers_printed_and_prints_no_end() {
 fn an_interrupted_read_is_made_again() {
     let (result, seen) = run(vec![
         Err(ErrorKind::Interrupted.into()),
-        Ok(STRIKE[..3].to_vec()),
+        Ok(CLOCK[..3].to_vec()),
         Err(ErrorKind::Interrupted.into()),
         Err(ErrorKind::Interrupted.into()),
-        Ok(STRIKE[3..].to_vec()),
+        Ok(CLOCK[3..].to_vec()),
     ]);
     assert!(result.is_ok());
-    assert_eq!(seen.text, String::from(STRUCK) + "end 0\n");
+    assert_eq!(seen.text, String::from(CLOCKED) + "end 0\n");
 }
 
 #[test]
 fn a_failed_write_is_told_and_ends_the_reading() {
     let seen = Rc::new(RefCell::new(Seen::default()));
     let input = Pieces {
-        pieces: [Ok(STRIKE.to_vec()), Ok(STRIKE.to_vec())].into(),
+        pieces: [Ok(CLOCK.to_vec()), Ok(FETCH.to_vec())].into(),
         seen: Rc::clone(&seen),
     };
     // A slice of seventeen bytes has room for the first line and no more.
     let mut space = [0; 17];
     let result = serial(input, &mut space[..]);
     assert!(matches!(result, Err(SerialFailure::Writing(_))));
-    assert_eq!(space, STRUCK.as_bytes());
+    assert_eq!(space, CLOCKED.as_bytes());
     assert_eq!(seen.borrow().lines_at_reads.len(), 2);
 }

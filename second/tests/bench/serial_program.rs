@@ -9,7 +9,7 @@ use std::time::Duration;
 
 use crate::listing::{SETTLED_INPUT, SETTLED_LISTING};
 use crate::program::prints_with;
-use crate::room::{STRIKE, STRUCK};
+use crate::room::{CLOCK, CLOCKED, FETCH, FETCHED};
 
 /// Long enough for an answer on a busy machine.
 const PATIENCE: Duration = Duration::from_secs(20);
@@ -108,17 +108,17 @@ fn the_program_answers_each_record_before_more_bytes_come() {
 #[test]
 fn the_program_waits_for_the_last_byte_of_a_record() {
     let (mut running, mut input) = Running::on_pipe();
-    for byte in &STRIKE[..3] {
+    for byte in &FETCH[..3] {
         input.write_all(&[*byte]).expect("the program reads");
         assert!(running.is_silent());
     }
     input
-        .write_all(&[STRIKE[3], 9, 0, 0])
+        .write_all(&[FETCH[3], 7, 0, 1])
         .expect("the program reads");
-    assert_eq!(running.next_line(), STRUCK);
+    assert_eq!(running.next_line(), FETCHED);
     assert!(running.is_silent());
     input.write_all(&[0, 7]).expect("the program reads");
-    assert_eq!(running.next_line(), "0906000000000000\n");
+    assert_eq!(running.next_line(), "0700000200020001\n");
     assert!(running.is_silent());
     drop(input);
     assert_eq!(running.next_line(), "end 3\n");
@@ -130,9 +130,9 @@ fn the_program_takes_whole_inputs_off_the_line() {
     prints_serial(&SETTLED_INPUT, SETTLED_LISTING);
     prints_serial(&[], "end 0\n");
     for length in 1..4 {
-        prints_serial(&STRIKE[..length], "end 3\n");
-        let input = [&STRIKE, &STRIKE[..length]].concat();
-        prints_serial(&input, &(String::from(STRUCK) + "end 3\n"));
+        prints_serial(&CLOCK[..length], "end 3\n");
+        let input = [&CLOCK, &CLOCK[..length]].concat();
+        prints_serial(&input, &(String::from(CLOCKED) + "end 3\n"));
     }
 }
 
@@ -150,12 +150,12 @@ fn most_memory(running: &Running) -> u64 {
 #[test]
 fn the_program_takes_any_length_without_more_memory() {
     let (mut running, mut input) = Running::on_pipe();
-    let some = STRIKE.repeat(10_000);
+    let some = CLOCK.repeat(10_000);
     let mut put_in = || {
         for part in some.chunks(4_000) {
             input.write_all(part).expect("the program reads");
             for _ in 0..part.len() / 4 {
-                assert_eq!(running.next_line(), STRUCK);
+                assert_eq!(running.next_line(), CLOCKED);
             }
         }
     };
@@ -182,8 +182,8 @@ fn the_program_says_so_when_the_line_fails_half_way() {
     // A port that goes away with bytes unread makes the other side's reads fail.
     program_side.write_all(&[0]).expect("the pair is open");
     let mut running = Running::on(Stdio::from(OwnedFd::from(program_side)));
-    port.write_all(&[4, 0, 0, 0, 4, 0]).expect("it is open");
-    assert_eq!(running.next_line(), STRUCK);
+    port.write_all(&[3, 0, 1, 0, 3, 0]).expect("it is open");
+    assert_eq!(running.next_line(), CLOCKED);
     assert!(running.is_silent());
     drop(port);
     running.ends_with(1);

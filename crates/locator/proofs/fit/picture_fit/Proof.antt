@@ -16,13 +16,19 @@ use Rattle.locator.proofs.fit.picture_fit.Statement.{statement}
 use Rattle.locator.proofs.fit.picture_fit.Tie as tie
 
 abbrev Inv-loop : tie.InvT-loop
-Inv-loop r latch n best₀ base₀ k₀ best base k = (k ≤ n) × (base ≡ rowBaseOf r k) × (best ≡ theFit (keep (fitsOf r latch) (cellsFrom r 0 k)))
+Inv-loop r latch n m all best₀ base₀ k₀ best base k = (k ≤ n) × (base ≡ rowBaseOf r k) × (best ≡ theFit (keep (fitsOf r latch) (cellsFrom r 0 k)))
 
 abbrev μ-loop : tie.MeasureT-loop
-μ-loop r latch n best₀ base₀ k₀ best base k = n - k
+μ-loop r latch n m all best₀ base₀ k₀ best base k = n - k
 
 rows-requires : tie.Need-rows-requires Inv-loop μ-loop
 rows-requires c κs = search needs
+
+front-requires : tie.Need-front-requires Inv-loop μ-loop
+front-requires c κs = search needs
+
+columns-requires : tie.Need-columns-requires Inv-loop μ-loop
+columns-requires c κs = search needs
 
 first-base-requires : tie.Need-first-base-requires Inv-loop μ-loop
 first-base-requires c κs = search needs
@@ -51,7 +57,8 @@ loop-again c =
     let turn = c .before .before .before in
     let head = turn .before in
     let l = head .loop in
-    let a = head .before .before .before .args in (
+    let asked = head .before .before in
+    let a = asked .before .before .before .args in (
       omega arith,
       c .next-base .ensures
           ∙ ap (λ (x : ℕ). countedOf Fourteen x (reg (a .r) 1)) (l .inv .1)
@@ -67,7 +74,8 @@ unfolding fitOf
 returns c =
     let head = c .before in
     let l = head .loop in
-    let a = head .before .before .before .args in
+    let asked = head .before .before in
+    let a = asked .before .before .before .args in
     let e : l .k ≡ rowsOf (a .r) = omega arith in
     l .inv .2 ∙ ap (λ (x : ℕ). theFit (keep (fitsOf (a .r) (a .latch)) (cellsFrom (a .r) 0 x))) e
 
@@ -78,6 +86,8 @@ picture-fit-spec =
     Inv-loop
     μ-loop
     rows-requires
+    front-requires
+    columns-requires
     first-base-requires
     loop-holds
     row-fit-requires
