@@ -138,3 +138,10 @@ module _ (r : Registers) (latch row : ℕ) where
       ap (λ (x : ℕ). joinedOf (partFitOf r latch row 0 m) (partFitOf r latch row x (n - m))) (sym (zero-add m))
       ∙ sym (parts-joined r latch row 0 m (n - m))
       ∙ ap (partFitOf r latch row 0) all
+
+  -- by the first m alone, where none of the rest fits
+  pub front-alone : (m n : ℕ) → m ≤ n → ((x : ℕ) → m ≤ x → x < n → fitsOf r latch (cellAt row x) ≡ true → ⊥) → partFitOf r latch row 0 m ≡ partFitOf r latch row 0 n
+  front-alone m n h f =
+      sym (joined-free (partFitOf r latch row 0 m))
+      ∙ ap (joinedOf (partFitOf r latch row 0 m)) (sym (no-column m (n - m) (λ x u v. f x u (omega arith))))
+      ∙ split-row m n h

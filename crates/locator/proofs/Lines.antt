@@ -21,11 +21,11 @@ either : (t u : Bool) → (t || u) ≡ true → (t ≡ true) ⊎ (u ≡ true)
 either true u e = inl refl
 either false u e = inr e
 
-or-left : (t u : Bool) → t ≡ true → (t || u) ≡ true
+pub or-left : (t u : Bool) → t ≡ true → (t || u) ≡ true
 or-left true u e = refl
 or-left false u e = absurd (false≢true e)
 
-or-right : (t u : Bool) → u ≡ true → (t || u) ≡ true
+pub or-right : (t u : Bool) → u ≡ true → (t || u) ≡ true
 or-right true u e = refl
 or-right false u e = e
 

@@ -1,9 +1,9 @@
 // Which cells fit a latch. The rows are gone over once. Where the line goes on for two characters more a row has at most one cell that fits,
 // since its columns are fewer than the addresses they run through: so that one is computed and struck. Of the others only those among the
-// line's last two are.
+// line's last two are, in the rows where one of them can fit.
 ghost use mathlib.Core.Path.{_≡_};
 ghost use Prim.Native.Nat.{ℕ, _+_, _-_, _<_, _≤_};
-ghost use mathlib.Core.Bool.{true};
+ghost use mathlib.Core.Bool.{true, false};
 ghost use Rattle.raster.specs.Registers.{reg, rowBaseOf};
 ghost use Rattle.locator.specs.Cells.{columnsOf, cellAt, fitsOf, fitOf};
 ghost use Rattle.locator.specs.private.Search.{joinedOf, oneFitOf, frontOf, partFitOf, rowFitOf, fromBaseOf, fromLowOf};
@@ -109,6 +109,23 @@ fn part_fit(r: Registers, base: u16, latch: u16, row: u8, a: u8, n: u8) -> Fit
     best
 }
 
+// Whether one of the line's last two columns can fit. They latch the first or second address of a line: of the row's own, of the next
+// row's, or of a new frame's. Where a line has one character that is not asked.
+fn ends_may_fit(r: Registers, base: u16, latch: u16, row: u8) -> bool
+    requires { ⌜ base ≡ rowBaseOf r row ⌝ }
+    ensures { λ b. ⌜ (b ≡ false → (x : ℕ) → x ≤ reg r 0 → reg r 0 < x + 2 → reg r 0 < 256 → fitsOf r latch (cellAt row x) ≡ true → ⊥) ⌝ }
+{
+    if r.held[0] == 0 {
+        return true;
+    }
+    if r.by_rows() {
+        return from_low(r.start(), latch) >= 254;
+    }
+    (from_base(base, latch) >= 16382)
+        | (from_base(next_base(r, base), latch) >= 16382)
+        | ((row == r.held[4]) & (from_base(r.start(), latch) >= 16382))
+}
+
 // Which cells of a row fit: of m columns in front, and of the others up to n.
 fn row_fit(r: Registers, base: u16, latch: u16, row: u8, m: u8, n: u8) -> Fit
     requires { ⌜ base ≡ rowBaseOf r row ⌝ }
@@ -119,7 +136,9 @@ fn row_fit(r: Registers, base: u16, latch: u16, row: u8, m: u8, n: u8) -> Fit
 {
     let fit = front_fit(r, base, latch, row, m);
     if m < n {
-        return fit.join(part_fit(r, base, latch, row, m, n));
+        if ends_may_fit(r, base, latch, row) {
+            return fit.join(part_fit(r, base, latch, row, m, n));
+        }
     }
     fit
 }
