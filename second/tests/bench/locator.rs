@@ -12,12 +12,6 @@ fn struck_at(row: u16, column: u16) -> Trial {
     trial
 }
 
-fn located_with(trial: &Trial, settings: &[(u8, u8)]) -> Result<(u8, u8), u8> {
-    let mut changed = *trial;
-    changed.set_all(settings);
-    changed.locate()
-}
-
 #[test]
 fn every_cell_of_a_screen_is_located_as_itself() {
     for row in 0..8 {
@@ -33,34 +27,34 @@ fn every_cell_of_a_screen_is_located_as_itself() {
 #[test]
 fn columns_of_the_list_are_below_r1_and_at_most_r0() {
     let trial = struck_at(0, 5);
-    assert_eq!(located_with(&trial, &[(6, 1), (1, 6)]), Ok((0, 5)));
-    assert_eq!(located_with(&trial, &[(6, 1), (1, 5)]), Err(7));
+    assert_eq!(trial.located_with(&[(6, 1), (1, 6)]), Ok((0, 5)));
+    assert_eq!(trial.located_with(&[(6, 1), (1, 5)]), Err(7));
     // The last column leads to column 1 of row 1, which is address 9. So would
     // column 7, two further on in its line, if it were in the list.
     let trial = struck_at(0, 7);
     for last_column in 2..7 {
         let shortened = [(0, last_column)];
-        assert_eq!(located_with(&trial, &shortened), Ok((0, last_column)));
+        assert_eq!(trial.located_with(&shortened), Ok((0, last_column)));
     }
 }
 
 #[test]
 fn rows_of_the_list_are_below_r6_and_at_most_r4() {
     let trial = struck_at(5, 0);
-    assert_eq!(located_with(&trial, &[(4, 5)]), Ok((5, 0)));
-    assert_eq!(located_with(&trial, &[(4, 4)]), Err(7));
-    assert_eq!(located_with(&trial, &[(6, 6)]), Ok((5, 0)));
-    assert_eq!(located_with(&trial, &[(6, 5)]), Err(7));
+    assert_eq!(trial.located_with(&[(4, 5)]), Ok((5, 0)));
+    assert_eq!(trial.located_with(&[(4, 4)]), Err(7));
+    assert_eq!(trial.located_with(&[(6, 6)]), Ok((5, 0)));
+    assert_eq!(trial.located_with(&[(6, 5)]), Err(7));
 }
 
 #[test]
 fn cells_follow_the_registers_as_they_stand() {
     let trial = struck_at(1, 2);
-    assert_eq!(located_with(&trial, &[(13, 1)]), Ok((1, 1)));
-    assert_eq!(located_with(&trial, &[(1, 7)]), Ok((1, 3)));
-    assert_eq!(located_with(&trial, &[(12, 1)]), Err(7));
+    assert_eq!(trial.located_with(&[(13, 1)]), Ok((1, 1)));
+    assert_eq!(trial.located_with(&[(1, 7)]), Ok((1, 3)));
+    assert_eq!(trial.located_with(&[(12, 1)]), Err(7));
     // Row 1, column 2 is now $0102; address 10 lies in no cell.
-    assert_eq!(located_with(&trial, &[(8, 4)]), Err(7));
+    assert_eq!(trial.located_with(&[(8, 4)]), Err(7));
 }
 
 #[test]
@@ -85,7 +79,7 @@ fn rows_64_apart_are_one_address_in_row_column_addressing() {
     let mut trial = Trial::with(&[(1, 1), (4, 100), (6, 65), (8, 4)]);
     trial.strike();
     assert_eq!(trial.locate(), Err(8));
-    assert_eq!(located_with(&trial, &[(6, 64)]), Ok((0, 0)));
+    assert_eq!(trial.located_with(&[(6, 64)]), Ok((0, 0)));
     trial.clocks(1);
     trial.strike();
     assert_eq!(trial.locate(), Ok((1, 0)));

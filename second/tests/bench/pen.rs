@@ -17,12 +17,6 @@ fn full_width_after(clocks: u16) -> Trial {
     trial
 }
 
-fn located_with(trial: &Trial, settings: &[(u8, u8)]) -> Result<(u8, u8), u8> {
-    let mut changed = *trial;
-    changed.set_all(settings);
-    changed.locate()
-}
-
 #[test]
 fn setting_a_latches_the_address_two_times_on() {
     let latches = [
@@ -96,7 +90,7 @@ fn r1_at_the_strike_says_how_far_the_base_moves() {
     assert_eq!(trial.strike(), (7, 1));
     // Column 2 of row 1 begins its next line there.
     assert_eq!(trial.locate(), Err(8));
-    assert_eq!(located_with(&trial, &[(6, 1)]), Ok((0, 2)));
+    assert_eq!(trial.located_with(&[(6, 1)]), Ok((0, 2)));
 }
 
 #[test]
@@ -105,7 +99,7 @@ fn r8_at_the_strike_says_how_the_address_is_made() {
     trial.set(8, 4);
     assert_eq!(trial.strike(), (0x0101, 1));
     assert_eq!(trial.locate(), Err(8));
-    assert_eq!(located_with(&trial, &[(6, 1)]), Ok((0, 3)));
+    assert_eq!(trial.located_with(&[(6, 1)]), Ok((0, 3)));
     trial.set(8, 0);
     assert_eq!(trial.strike(), (5, 1));
 }
@@ -175,16 +169,16 @@ fn the_lines_of_a_cell_go_by_r9_as_it_stands_at_the_locating() {
     let mut trial = full_width_after(2);
     assert_eq!(trial.strike(), (0, 1));
     for r9 in 1..32 {
-        assert_eq!(located_with(&trial, &[(9, r9)]), Ok((0, 2)), "R9 {r9}");
+        assert_eq!(trial.located_with(&[(9, r9)]), Ok((0, 2)), "R9 {r9}");
     }
-    assert_eq!(located_with(&trial, &[(9, 0)]), Err(7));
+    assert_eq!(trial.located_with(&[(9, 0)]), Err(7));
     // On its last line it comes to 4, and so does row 1 if it has two lines.
     let mut trial = full_width_after(LAST_LINE_OF_ROW_0 + 2);
     assert_eq!(trial.strike(), (4, 1));
     for r9 in 1..32 {
-        assert_eq!(located_with(&trial, &[(9, r9)]), Err(8), "R9 {r9}");
+        assert_eq!(trial.located_with(&[(9, r9)]), Err(8), "R9 {r9}");
     }
-    assert_eq!(located_with(&trial, &[(9, 0)]), Ok((0, 2)));
+    assert_eq!(trial.located_with(&[(9, 0)]), Ok((0, 2)));
 }
 
 #[test]
@@ -192,11 +186,11 @@ fn what_follows_the_last_row_goes_by_r4_and_r5_as_they_stand_at_the_locating() {
     let mut trial = full_width_after(LAST_LINE_OF_ROW_1 + 2);
     assert_eq!(trial.strike(), (8, 1));
     assert_eq!(trial.locate(), Ok((1, 2)));
-    assert_eq!(located_with(&trial, &[(5, 31)]), Ok((1, 2)));
-    assert_eq!(located_with(&trial, &[(5, 0)]), Err(7));
-    assert_eq!(located_with(&trial, &[(4, 2), (5, 0)]), Ok((1, 2)));
+    assert_eq!(trial.located_with(&[(5, 31)]), Ok((1, 2)));
+    assert_eq!(trial.located_with(&[(5, 0)]), Err(7));
+    assert_eq!(trial.located_with(&[(4, 2), (5, 0)]), Ok((1, 2)));
     // Row 2 shown as well comes to 8 on its first line.
-    assert_eq!(located_with(&trial, &[(4, 2), (6, 3)]), Err(8));
+    assert_eq!(trial.located_with(&[(4, 2), (6, 3)]), Err(8));
 }
 
 #[test]

@@ -175,6 +175,13 @@ impl Trial {
         Err(refusal)
     }
 
+    /// The same with registers written before it, in a trial of its own.
+    pub fn located_with(&self, settings: &[(u8, u8)]) -> Result<(u8, u8), u8> {
+        let mut changed = *self;
+        changed.set_all(settings);
+        changed.locate()
+    }
+
     pub fn bus_read(&mut self, address: u16) -> [u8; 6] {
         let [hi, lo] = address.to_be_bytes();
         self.body([6, hi, lo, 1])
