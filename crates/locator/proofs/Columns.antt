@@ -7,7 +7,7 @@ use Rattle.basics.proofs.Cases.{if-yes, if-no}
 use Rattle.basics.specs.Bits.{wordOf, highOf, lowOf}
 use Rattle.raster.specs.Registers.{reg, startOf, rowBaseOf, byRowsOf}
 use Rattle.raster.specs.declared.registers.Registers.{Registers}
-use Rattle.facts.specs.Facts.{addressOf}
+use Rattle.facts.specs.Facts.{addressOf, maOf}
 use Rattle.facts.proofs.Latching.{two-back}
 use Rattle.locator.specs.Cells.{cellAddressOf, fitsOf}
 use Rattle.locator.specs.private.Search.{fromBaseOf, fromLowOf}
@@ -38,7 +38,7 @@ module _ (r : Registers) (latch : ℕ) where
   -- so where the line goes on after both, cells that fit one latch have one address
   pub same-address : (c d : Cell) → c .column + 2 ≤ reg r 0 → d .column + 2 ≤ reg r 0 → reg r 0 < 256
       → fitsOf r latch c ≡ true → fitsOf r latch d ≡ true → cellAddressOf r c ≡ cellAddressOf r d
-  unfolding cellAddressOf
+  unfolding maOf cellAddressOf
   same-address c d h k narrow f g =
       two-back r (startOf r) (rowBaseOf r (c .row)) (rowBaseOf r (d .row)) (c .row) (d .row) (c .column) (d .column)
       (two-on c h (omega arith) f ∙ sym (two-on d k (omega arith) g))

@@ -9,7 +9,7 @@ use Rattle.basics.specs.Count.{count}
 use Rattle.raster.specs.Registers.{reg, startOf, rowBaseOf}
 use Rattle.raster.specs.declared.registers.Registers.{Registers}
 use Rattle.raster.specs.declared.scan.Scan.{Scan}
-use Rattle.facts.specs.Facts.{addressOf, latchOf}
+use Rattle.facts.specs.Facts.{maOf, latchOf}
 use Rattle.locator.specs.declared.cells.Cell.{Cell}
 use Rattle.locator.specs.declared.fit.Fit.{Fit}
 use Rattle.locator.specs.declared.fit.Fit.the-variants.{Free, One, Many}
@@ -59,9 +59,9 @@ cellScanOf r c line = record {
   adjusting = false;
 }
 
--- the address of the cell: MA there, which is the same on all its lines
+-- the address of the cell: MA there, on its first line as on all
 unfoldable pub cellAddressOf : Registers → Cell → ℕ
-cellAddressOf r c = addressOf r (startOf r) (rowBaseOf r (c .row)) (c .row) (c .column)
+cellAddressOf r c = maOf r (cellScanOf r c 0)
 
 -- the latch that a strike in the cell leaves, on one of its lines: by the rule of every strike
 unfoldable pub cellLatchOf : Registers → Cell → ℕ → ℕ

@@ -110,7 +110,7 @@ fn part_fit(r: Registers, base: u16, latch: u16, row: u8, a: u8, n: u8) -> Fit
 }
 
 // Whether one of the line's last two columns can fit. They latch the first or second address of a line: of the row's own, of the next
-// row's, or of a new frame's. Where a line has one character that is not asked.
+// row's, or of a new frame's; from there counted two back, that is a column round the end. Where a line has one character it is not asked.
 fn ends_may_fit(r: Registers, base: u16, latch: u16, row: u8) -> bool
     requires { ⌜ base ≡ rowBaseOf r row ⌝ }
     ensures { λ b. ⌜ (b ≡ false → (x : ℕ) → x ≤ reg r 0 → reg r 0 < x + 2 → reg r 0 < 256 → fitsOf r latch (cellAt row x) ≡ true → ⊥) ⌝ }

@@ -49,7 +49,7 @@ unwrapped : (a x : ℕ) → a ≤ 1 → x < 2 → ((0 + a * 2) % 16384 + x) % 16
 unwrapped a x p q = omega arith
 
 one-each : OneCellEach (A .regs)
-unfolding if_then_else_ addressOf arrivedOf freshOf writeOf addressedOf storedOf writtenOf afterCall afterCalls cellAddressOf cases.writtenOf
+unfolding if_then_else_ addressOf maOf arrivedOf freshOf writeOf addressedOf storedOf writtenOf afterCall afterCalls cellAddressOf cases.writtenOf
 one-each c d i j e =
     let q =
     told-apart (c .row) (d .row) (c .column) (d .column) (i .column<) (j .column<)
