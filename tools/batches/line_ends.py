@@ -22,15 +22,16 @@ def full_setting(rng):
 
 
 def short_setting(rng):
-    """The same with lines of one or two characters, so that two character times pass whole lines."""
-    return {**full_setting(rng), 0: rng.randrange(LAST_TWO), 1: rng.randint(1, 3)}
+    """The same with lines of one or two characters, so that two character times pass whole lines; often with one adjust line, so that a
+    row's last line and the one before it lead to different places."""
+    return {**full_setting(rng), 0: rng.randrange(LAST_TWO), 1: rng.randint(1, 3), 5: rng.choice((0, 1, 1, 2))}
 
 
 def to_line_end(rng, setting):
     """Clocks from a reset to one of the last characters of a line: on a row's last lines more often than on others."""
     rows, _columns = picture_size(setting)
     row = rng.choice((rows - 1, rng.randrange(rows)))
-    line = max(setting[9] - rng.choice((0, 0, 1, rng.randrange(setting[9] + 1))), 0)
+    line = max(setting[9] - rng.choice((0, 0, 1, 1, rng.randrange(setting[9] + 1))), 0)
     column = max(setting[0] - rng.randrange(LAST_TWO + 1), 0)
     return clocks(((setting[9] + 1) * row + line) * line_length(setting) + column)
 
