@@ -8,7 +8,7 @@ use controller::Controller;
 
 // The controller after an event or a record, and what is answered.
 #[repr(C)]
-#[derive(Drop)]
+#[derive(Clone, Copy)]
 pub struct Told {
     pub controller: Controller,
     pub answer: Answer,

@@ -1,4 +1,6 @@
 // The display controller by itself: what each of its events does and answers, and whole records of kinds 1, 3 and 4 on it.
+#![tactic(auto)]
+
 mod answers;
 mod events;
 mod records;

@@ -1,9 +1,11 @@
 // An answer: eight bytes, the kind and the refusal number first, then the body.
+#![tactic(auto)]
+
 ghost use Rattle.std.specs.Prelude.{◌≡◌, [], ◌∷◌};
 ghost use Rattle.answer.specs.Answer.{done_of, plain_of, bytes_of};
 
 #[repr(C)]
-#[derive(Drop)]
+#[derive(Clone, Copy)]
 pub struct Answer {
     pub kind: u8,
     pub refusal: u8,

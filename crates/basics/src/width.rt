@@ -4,7 +4,7 @@ ghost use Rattle.basics.specs.Width.{bits_of, counted_of};
 
 // The widths of the controller's counters: line and field five bits, row seven, column eight, base fourteen. There is no other, so a
 // counter cannot be given a width that the chip lacks.
-#[derive(Drop)]
+#[derive(Clone, Copy)]
 pub enum Width {
     Five,
     Seven,

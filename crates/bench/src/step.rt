@@ -10,14 +10,14 @@ use locator::locate;
 use multiplexer::Multiplexer;
 use record::{Decoded, Event, decode};
 
-#[derive(Drop)]
+#[derive(Clone, Copy)]
 pub struct Bench {
     pub controller: Controller,
     pub multiplexer: Multiplexer,
 }
 
 // What a record leaves and what is answered.
-#[derive(Drop)]
+#[derive(Clone, Copy)]
 pub struct Stepped {
     pub bench: Bench,
     pub answer: Answer,

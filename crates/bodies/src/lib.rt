@@ -1,4 +1,6 @@
 // What the multiplexer and the locator answer: the body of each kind, from what its chip tells, and for kind 9 the refusal too.
+#![tactic(auto)]
+
 ghost use Rattle.std.specs.Prelude.{◌≡◌};
 ghost use Rattle.answer.specs.Answer.{done_of};
 ghost use Rattle.bodies.specs.Bodies.{bus_body_of, shown_body_of, levels_body_of, located_answer_of};

@@ -1,6 +1,8 @@
 // The settled cases a to z, run through the public calls. A line for each: its letter, the frame's length in character times, picture,
 // adjusting, MA, latch, and the locator's refusal, row and column. What is run, and what is seen of it, are definitions of the crate
 // `settled`, whose table is proved; only the printing has no contract.
+#![tactic(auto)]
+
 ghost use Rattle.std.specs.Prelude.{◌%◌, true, false, [], ◌≡◌, get_or};
 ghost use Rattle.controller.specs.Chip.{write_of};
 ghost use Rattle.frames.specs.Places.{frame_times};

@@ -5,7 +5,7 @@ ghost use Rattle.clocks.specs.Walk.{on_from, walk_of};
 use raster::{Registers, Scan, Sync};
 
 #[repr(C)]
-#[derive(Drop)]
+#[derive(Clone, Copy)]
 pub struct Place {
     pub scan: Scan,
     pub sync: Sync,
@@ -13,7 +13,7 @@ pub struct Place {
 
 // Where a walk has come to, and the character that its last step left.
 #[repr(C)]
-#[derive(Drop)]
+#[derive(Clone, Copy)]
 pub struct Walk {
     pub place: Place,
     pub from: Scan,

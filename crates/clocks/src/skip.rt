@@ -7,7 +7,7 @@ use crate::place::Place;
 use raster::Registers;
 
 // A place further on, and how many character times further.
-#[derive(Drop)]
+#[derive(Clone, Copy)]
 pub(crate) struct Skip {
     pub place: Place,
     pub times: u16,

@@ -3,7 +3,7 @@ ghost use Rattle.std.specs.Prelude.{◌≡◌};
 ghost use Rattle.control.specs.Names.{clear_of, mode_of, f_of, pOf, r0_of, r1_of, m0_of, m1_of, ty_of};
 
 // All sixteen as one number, V0 the lowest bit and TY the highest.
-#[derive(Drop)]
+#[derive(Clone, Copy)]
 pub struct Control {
     pub bits: u16,
 }

@@ -1,4 +1,6 @@
 // The multiplexer's sixteen control bits: what each is called, and how a bus cycle writes them.
+#![tactic(auto)]
+
 mod bits;
 mod write;
 

@@ -10,7 +10,7 @@ use pen::{Pen, Strike};
 use raster::{Registers, Scan, Sync};
 
 #[repr(C)]
-#[derive(Drop)]
+#[derive(Clone, Copy)]
 pub struct Controller {
     pub regs: Registers,
     pub scan: Scan,

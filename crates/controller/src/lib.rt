@@ -1,4 +1,6 @@
 // The 6545-1 display controller: registers, scan, syncs, delayed pins and light pen.
+#![tactic(auto)]
+
 mod bytes;
 mod chip;
 mod pins;

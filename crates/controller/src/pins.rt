@@ -5,7 +5,7 @@ ghost use Rattle.controller.specs.Pins.{pin_of, outputs_of};
 use crate::chip::Controller;
 
 #[repr(C)]
-#[derive(Drop)]
+#[derive(Clone, Copy)]
 pub struct Outputs {
     pub ma: u16,
     pub ra: u8,

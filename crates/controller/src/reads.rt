@@ -10,7 +10,7 @@ use basics::{flag, high, low};
 
 // What a read brings, and the controller after it.
 #[repr(C)]
-#[derive(Drop)]
+#[derive(Clone, Copy)]
 pub struct Reading {
     pub driven: bool,
     pub value: u8,

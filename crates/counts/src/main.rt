@@ -1,5 +1,7 @@
 // The report on the settings on standard input. One byte more than 64 settings have is read, so that more of them show. What is made of the
 // bytes, and what is said of a failure, proved functions decide: here nothing is chosen.
+#![tactic(auto)]
+
 use libc::{STDERR_FILENO, STDIN_FILENO, STDOUT_FILENO};
 use text::said;
 

@@ -1,5 +1,7 @@
 // A list of calls on standard input, made in order on one fresh line, each shown by its counts and its output. One byte more than a list may
 // have is read, so that a longer one shows. What is made of the bytes, and what is said of a failure, proved functions decide.
+#![tactic(auto)]
+
 ghost use Rattle.std.specs.Prelude.{◌≤◌, length};
 
 use cuts_text::{is_list, make, refusal};
@@ -9,7 +11,7 @@ use replay::unread_rest;
 use text::said;
 
 // The line after a call, how many bytes of the list said it, and whether its text was written.
-#[derive(Drop)]
+#[derive(Clone, Copy)]
 struct Call {
     line: Line,
     used: usize,

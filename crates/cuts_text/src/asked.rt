@@ -19,7 +19,7 @@ const CUT: u8 = 1;
 const CLOSE: u8 = 2;
 
 // The call that a list begins with.
-#[derive(Drop)]
+#[derive(Clone, Copy)]
 pub enum Asked {
     Nothing,
     Close,

@@ -1,4 +1,6 @@
 // The text of the program `cuts`: a list of calls on one line, made in order, each shown by its counts and its output.
+#![tactic(auto)]
+
 mod asked;
 mod made;
 

@@ -18,7 +18,7 @@ use text::put_lines;
 pub const TEXT: usize = rooms_text::TEXT;
 
 // The line after a call, how many bytes of the list said it, and how long the text is.
-#[derive(Drop)]
+#[derive(Clone, Copy)]
 pub struct Made {
     pub line: Line,
     pub used: usize,

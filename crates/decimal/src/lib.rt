@@ -1,4 +1,6 @@
 // Numbers as decimal digits.
+#![tactic(auto)]
+
 ghost use Rattle.std.specs.Prelude.{◌≡◌, [], ◌∷◌, ◌+◌, ◌%◌};
 ghost use Rattle.basics.specs.Lay.{Writes, behind_of, put_at};
 ghost use Rattle.decimal.specs.Decimal.{decimal_in, decimal_of};

@@ -7,7 +7,7 @@ use crate::modes::Mode;
 
 // The display address B, and the dividers X (between B3 and B4) and Y (between B4 and B5).
 #[repr(C)]
-#[derive(Drop)]
+#[derive(Clone, Copy)]
 pub struct Display {
     pub b: u16,
     pub x: u8,

@@ -15,7 +15,7 @@ const MODES: [[u8; 3]; 8] = [
 ];
 
 // One mode: at x falls of B3 bit B4 flips, at y falls of B4 the address above it moves on, and a fall of HS clears up to bit top.
-#[derive(Drop)]
+#[derive(Clone, Copy)]
 pub struct Mode {
     pub x: u8,
     pub y: u8,

@@ -1,5 +1,7 @@
 // The calls that programs in other languages link, each by value and over plain data: the controller's, the locator's answer as numbers,
 // the display counter, and the report on a batch of settings. include/vorstelpijp.h declares them for C.
+#![tactic(auto)]
+
 ghost use Rattle.std.specs.Prelude.{◌≡◌};
 ghost use Rattle.controller.specs.Chip.{fresh_of, reset_of, write_of, clock_of, strike_of};
 ghost use Rattle.controller.specs.Pins.{outputs_of};
@@ -17,7 +19,7 @@ use pen::Strike;
 
 // A locator's answer: its number in the table of refusals, and the cell, zeros where it names none.
 #[repr(C)]
-#[derive(Drop)]
+#[derive(Clone, Copy)]
 pub struct Found {
     pub refusal: u8,
     pub row: u8,

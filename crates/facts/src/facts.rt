@@ -8,7 +8,7 @@ use raster::{Registers, Scan};
 
 // The two facts that a delayed pin shows one character late.
 #[repr(C)]
-#[derive(Drop)]
+#[derive(Clone, Copy)]
 pub struct Facts {
     pub picture: bool,
     pub cursor: bool,

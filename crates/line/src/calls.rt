@@ -21,7 +21,7 @@ const NO_ROOM: u8 = 4;
 const CLOSED: u8 = 12;
 
 // Both chips, the bytes of an unfinished record, and whether the line is closed.
-#[derive(Drop)]
+#[derive(Clone, Copy)]
 pub struct Line {
     pub bench: Bench,
     pub held: Held,
@@ -29,7 +29,7 @@ pub struct Line {
 }
 
 // The line after a call, the ending number, the bytes taken of the call's own cut, and the answers written.
-#[derive(Drop)]
+#[derive(Clone, Copy)]
 pub struct Called {
     pub line: Line,
     pub ending: u8,
@@ -38,7 +38,7 @@ pub struct Called {
 }
 
 // What a cut meets.
-#[derive(Drop)]
+#[derive(Clone, Copy)]
 enum Met {
     Closed,
     Short,

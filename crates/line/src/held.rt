@@ -4,7 +4,7 @@ ghost use Rattle.line.specs.Held.{held_of, holding_of, closing_number};
 ghost use Rattle.line.specs.private.Calls.{first_record};
 
 // A fourth byte cannot be held: there is no way to say it.
-#[derive(Drop)]
+#[derive(Clone, Copy)]
 pub enum Held {
     Nothing,
     One(u8),

@@ -1,5 +1,7 @@
 // The listing of the batch on standard input. One byte more than a batch may have is read, so that a longer one shows. What is made of the
 // bytes, and what is said of a failure, proved functions decide: here nothing is chosen.
+#![tactic(auto)]
+
 use libc::{STDERR_FILENO, STDIN_FILENO, STDOUT_FILENO};
 use text::said;
 

@@ -9,7 +9,7 @@ use controller::Controller;
 use pen::Strike;
 use raster::Registers;
 
-#[derive(Drop)]
+#[derive(Clone, Copy)]
 pub enum Located {
     At(Cell),
     Unstruck,

@@ -10,7 +10,7 @@ use raster::{Registers, Scan};
 use std::num::wrapping_add_u16;
 
 #[repr(C)]
-#[derive(Drop)]
+#[derive(Clone, Copy)]
 pub struct Cell {
     pub row: u8,
     pub column: u8,

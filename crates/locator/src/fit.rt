@@ -10,7 +10,7 @@ use crate::cells::{Cell, cell_fits, columns, first_base, front, line_fits, next_
 use raster::Registers;
 
 // Of a list of cells: none, just one, or more.
-#[derive(Drop)]
+#[derive(Clone, Copy)]
 pub enum Fit {
     Free,
     One(Cell),

@@ -1,4 +1,6 @@
 // The locator: which cell of the picture the last pen strike fell in.
+#![tactic(auto)]
+
 mod answer;
 mod cells;
 mod fit;

@@ -10,7 +10,7 @@ const BLOCK_SELECTS: [u8; 8] = [4, 5, 6, 7, 7, 7, 7, 2];
 
 // What a cycle shows: the device select, its length in ticks of the crystal, its flags (RAM the lowest bit, then the barred pair, then a
 // control write), and its cell, zero where it is not for RAM.
-#[derive(Drop)]
+#[derive(Clone, Copy)]
 pub struct Cycle {
     pub select: u8,
     pub ticks: u8,

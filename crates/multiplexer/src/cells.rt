@@ -6,7 +6,7 @@ ghost use Rattle.multiplexer.specs.Cells.{side_of, no_cell, cell_of, routed_of};
 use control::Control;
 
 // A place in the memory chips.
-#[derive(Drop)]
+#[derive(Clone, Copy)]
 pub struct MemoryCell {
     pub bank: u8,
     pub row: u8,

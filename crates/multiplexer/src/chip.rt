@@ -10,7 +10,7 @@ use control::Control;
 use display::Display;
 
 // The refresh counter has seven bits; hs is the level that HS has.
-#[derive(Drop)]
+#[derive(Clone, Copy)]
 pub struct Multiplexer {
     pub control: Control,
     pub display: Display,
@@ -19,14 +19,14 @@ pub struct Multiplexer {
 }
 
 // After a bus cycle, and what the cycle showed.
-#[derive(Drop)]
+#[derive(Clone, Copy)]
 pub struct Bused {
     pub multiplexer: Multiplexer,
     pub cycle: Cycle,
 }
 
 // The display address by its two bytes, its cell, and whether the display has access to the memory.
-#[derive(Drop)]
+#[derive(Clone, Copy)]
 pub struct Shown {
     pub high: u8,
     pub low: u8,
@@ -35,7 +35,7 @@ pub struct Shown {
 }
 
 // After the levels of HS and DA0: the edge that they made, and the rows refreshed at it, count of them from first on.
-#[derive(Drop)]
+#[derive(Clone, Copy)]
 pub struct Levelled {
     pub multiplexer: Multiplexer,
     pub edge: u8,

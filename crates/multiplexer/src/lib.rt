@@ -1,4 +1,6 @@
 // The MC6883 multiplexer as a whole: what a bus cycle shows, where memory lies, and what HS does to display and refresh.
+#![tactic(auto)]
+
 mod bus;
 mod cells;
 mod chip;

@@ -6,7 +6,7 @@ use crate::edge::FALL;
 use control::Control;
 
 // What an HS level refreshes: count rows from first on. And where the counter then stands.
-#[derive(Drop)]
+#[derive(Clone, Copy)]
 pub struct Refresh {
     pub first: u8,
     pub count: u8,

@@ -4,14 +4,14 @@ ghost use Rattle.pen.specs.Pen.{no_pen, struck_of, emptied_of, holds_of, newest_
 
 // What a strike latched, and whether it fell in the picture.
 #[repr(C)]
-#[derive(Drop)]
+#[derive(Clone, Copy)]
 pub struct Strike {
     pub latch: u16,
     pub inside: bool,
 }
 
 #[repr(C)]
-#[derive(Drop)]
+#[derive(Clone, Copy)]
 pub struct Pen {
     // all zero where there was none
     pub last: Strike,

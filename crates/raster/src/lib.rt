@@ -1,4 +1,6 @@
 // The raster of the 6545-1: its registers, where the scan is and how a character time moves it, and the sync counts.
+#![tactic(auto)]
+
 mod registers;
 mod scan;
 mod sync;

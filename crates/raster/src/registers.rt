@@ -5,7 +5,7 @@ ghost use Rattle.raster.specs.Registers.{start_of, by_rows_of, display_delayed_o
 use basics::word;
 
 #[repr(C)]
-#[derive(Drop)]
+#[derive(Clone, Copy)]
 pub struct Registers {
     pub held: [u8; 16],
     pub named: u8,

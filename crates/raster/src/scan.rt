@@ -9,7 +9,7 @@ use basics::Width;
 use std::num::wrapping_add_u8;
 
 #[repr(C)]
-#[derive(Drop)]
+#[derive(Clone, Copy)]
 pub struct Scan {
     pub column: u8,
     pub line: u8,

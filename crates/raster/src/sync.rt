@@ -6,7 +6,7 @@ use crate::registers::Registers;
 use crate::scan::Scan;
 
 #[repr(C)]
-#[derive(Drop)]
+#[derive(Clone, Copy)]
 pub struct Sync {
     pub hsync: u8,
     pub vsync: u8,

@@ -1,5 +1,5 @@
 // What a record can ask of the bench. A field that the table of kinds holds to 0 or 1 is a bool, so no other value can be said.
-#[derive(Drop)]
+#[derive(Clone, Copy)]
 pub enum Event {
     Write { rs: bool, value: u8 },
     Read { rs: bool },

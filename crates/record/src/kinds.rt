@@ -6,13 +6,13 @@ use crate::event::Event;
 use basics::word;
 
 // Why a record is no event: its kind is none, or one of its fields is not allowed.
-#[derive(Drop)]
+#[derive(Clone, Copy)]
 pub enum Refusal {
     Kind,
     Field,
 }
 
-#[derive(Drop)]
+#[derive(Clone, Copy)]
 pub enum Decoded {
     Known(Event),
     Refused(Refusal),

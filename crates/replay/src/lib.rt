@@ -1,4 +1,6 @@
 // A batch of records, replayed on the two chips.
+#![tactic(auto)]
+
 mod rest;
 mod run;
 

@@ -22,7 +22,7 @@ const CUT_SHORT: u8 = 3;
 const NO_ROOM: u8 = 4;
 
 // Both chips, the ending number, the bytes taken and the answers written.
-#[derive(Drop)]
+#[derive(Clone, Copy)]
 pub struct Replayed {
     pub controller: Controller,
     pub multiplexer: Multiplexer,

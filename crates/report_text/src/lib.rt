@@ -1,4 +1,6 @@
 // The text of a report: a line for each setting, and the totals.
+#![tactic(auto)]
+
 mod lines;
 mod whole;
 

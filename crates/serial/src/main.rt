@@ -1,12 +1,14 @@
 // The records on standard input, as they come: what is there is read, its answers are printed at once, and at the end of the input the line
 // is closed. What is made of the bytes, and what is said of a failure, proved functions decide.
+#![tactic(auto)]
+
 use libc::{STDERR_FILENO, STDIN_FILENO, STDOUT_FILENO};
 use line::Line;
 use serial_text::{space, tell, tell_end};
 use text::said;
 
 // The line after a turn, what the read gave, and whether the text was written.
-#[derive(Drop)]
+#[derive(Clone, Copy)]
 struct Turn {
     line: Line,
     got: isize,

@@ -1,4 +1,6 @@
 // The text of the program `serial`: the answers to what came off the line, each on its line, and the ending.
+#![tactic(auto)]
+
 mod ending;
 mod turn;
 

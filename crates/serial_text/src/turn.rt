@@ -28,7 +28,7 @@ pub fn space() -> [u8; CUT]
 }
 
 // The line after a cut, how the call ended, the bytes taken, and how long the text is.
-#[derive(Drop)]
+#[derive(Clone, Copy)]
 pub struct Told {
     pub line: Line,
     pub ending: u8,

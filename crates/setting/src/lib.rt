@@ -1,4 +1,6 @@
 // A setting: sixteen bytes, one for each register R0 to R15, each cut as a write cuts it; and the controller that it starts.
+#![tactic(auto)]
+
 ghost use Rattle.std.specs.Prelude.{◌≡◌, get_or};
 ghost use Rattle.setting.specs.Setting.{bytes, cut_of, setting_of, started_of, clean_of};
 

@@ -2,7 +2,7 @@
 ghost use Rattle.std.specs.Prelude.{◌≡◌};
 ghost use Rattle.setup_file.specs.Setup.{kind_of};
 
-#[derive(Drop)]
+#[derive(Clone, Copy)]
 pub enum Kind {
     Registers,
     Control,
@@ -10,7 +10,7 @@ pub enum Kind {
 }
 
 // Which parts a setup has.
-#[derive(Drop)]
+#[derive(Clone, Copy)]
 pub struct Parts {
     pub registers: bool,
     pub control: bool,

@@ -5,7 +5,7 @@ ghost use Rattle.setup_reader.specs.Entries.{told_of, entry_at, whole_of};
 
 use basics::word;
 
-#[derive(Drop)]
+#[derive(Clone, Copy)]
 pub struct Entry {
     pub kind: u8,
     pub offset: u16,

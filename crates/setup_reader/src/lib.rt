@@ -1,4 +1,6 @@
 // Reading a customer's setup file: whether it is one, where its bodies stand, and each body as a part of the file.
+#![tactic(auto)]
+
 mod bodies;
 mod entries;
 mod opened;

@@ -2,7 +2,7 @@
 use crate::places::Places;
 use setup_file::Refusal;
 
-#[derive(Drop)]
+#[derive(Clone, Copy)]
 pub enum Opened {
     Setup(Places),
     Refused(Refusal),

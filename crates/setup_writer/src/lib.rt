@@ -1,4 +1,6 @@
 // Writing a customer's setup file into a lent output.
+#![tactic(auto)]
+
 mod answer;
 mod layout;
 mod pieces;

@@ -1,4 +1,6 @@
 // What a frame does, in seven numbers.
+#![tactic(auto)]
+
 mod frame;
 mod pass;
 mod tally;

@@ -11,7 +11,7 @@ use controller::{Controller, pin};
 use facts::{Facts, ma};
 use raster::{Registers, Scan, Sync};
 
-#[derive(Drop)]
+#[derive(Clone, Copy)]
 pub(crate) struct Pass {
     pub scan: Scan,
     pub sync: Sync,

@@ -10,7 +10,7 @@ use raster::Sync;
 // Seven counts: times in the picture; times at which each of the four pins is high; address lines that changed from one time to the next,
 // all of them, and the most at once.
 #[repr(C)]
-#[derive(Drop)]
+#[derive(Clone, Copy)]
 pub struct Tally {
     pub picture: u64,
     pub display: u64,

@@ -1,4 +1,6 @@
 // Texts: bytes as two lowercase hex digits each, bytes eight to a line, and how much of a text a program says.
+#![tactic(auto)]
+
 mod hex;
 mod lines;
 mod speech;
