@@ -1,9 +1,9 @@
 -- An array that a loop fills from its front on, place k with f k. Assumes nothing.
-use Prim.Native.Nat.{ℕ, ◌+◌, ◌≤◌, ◌<◌}
+use Prim.Native.Nat.{ℕ, ◌+◌, ◌<◌}
 use mathlib.Core.Path.{◌≡◌, ap, sym, ◌∙◌}
-use mathlib.Core.List.{List, [], ◌++◌, map, append-nil}
+use mathlib.Core.List.{List, ◌++◌, map, append-nil}
 use native.Mathlib.Omega.{arith}
-use lib.ListN.{length, set, drop, drop_of_length-le}
+use lib.ListN.{length, set, drop_of_length-le}
 use Rattle.basics.specs.Count.{count}
 use Rattle.basics.specs.Lay.{laid_at}
 use Rattle.basics.proofs.Counting.{each_none, each_last, length-each}
