@@ -1,7 +1,7 @@
 -- Whole records on a controller that stands alone (document 01, kinds 1, 3 and 4 of the table of kinds). That they do the same on the
 -- bench is said, and shown, in the crate `every_record`.
 use Rattle.std.specs.Prelude.{ℕ}
-use Rattle.basics.specs.Choice.{if◌then◌else◌}
+use Rattle.basics.specs.Choice.{when◌then◌else◌}
 use Rattle.answer.specs.Answer.{plain_of}
 use Rattle.controller.specs.declared.chip.Controller.{Controller}
 use Rattle.record.specs.Decode.{decode_of, number_of}
@@ -22,7 +22,7 @@ on_event c kind (Write rs value) = on_write c kind rs value
 on_event c kind (Read rs) = on_read c kind rs
 on_event c kind (Clocks n) = on_clocks c kind n
 on_event c kind Strike = on_strike c kind
-on_event c kind (Reset multiplexer) = if multiplexer then idle c kind else on_reset c kind
+on_event c kind (Reset multiplexer) = when multiplexer then idle c kind else on_reset c kind
 on_event c kind (Cycle address read) = idle c kind
 on_event c kind (Fetches n) = idle c kind
 on_event c kind (Levels hs da0) = idle c kind

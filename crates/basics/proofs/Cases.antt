@@ -7,20 +7,20 @@ use mathlib.Core.Bool.{Bool, true, false, not, ◌&&◌, ◌||◌}
 use mathlib.Core.Path.{◌≡◌, refl, sym, ◌∙◌}
 use lib.Dec.{eqb, ltb}
 use borrow.Author.Tests.{lt-ltb, le-ltb, le-leb, lt-leb, eq-eqb, ne_eqb}
-use Rattle.basics.specs.Choice.{if◌then◌else◌}
+use Rattle.basics.specs.Choice.{when◌then◌else◌}
 
 module _ {A : Type 0} (t : Bool) (x y r : A) where
-  pub if_yes : t ≡ true → r ≡ x → r ≡ if t then x else y
-  unfolding if◌then◌else◌
+  pub if_yes : t ≡ true → r ≡ x → r ≡ when t then x else y
+  unfolding when◌then◌else◌
   if_yes h q = rw h q
 
-  pub if_no : t ≡ false → r ≡ y → r ≡ if t then x else y
-  unfolding if◌then◌else◌
+  pub if_no : t ≡ false → r ≡ y → r ≡ when t then x else y
+  unfolding when◌then◌else◌
   if_no h q = rw h q
 
 -- a property of both cases, each with what its test says, is one of the choice
-pub if-both : {A : Type 0} (P : A → Type 0) (t : Bool) (x y : A) → (t ≡ true → P x) → (t ≡ false → P y) → P (if t then x else y)
-unfolding if◌then◌else◌
+pub if-both : {A : Type 0} (P : A → Type 0) (t : Bool) (x y : A) → (t ≡ true → P x) → (t ≡ false → P y) → P (when t then x else y)
+unfolding when◌then◌else◌
 if-both P true x y f g = f refl
 if-both P false x y f g = g refl
 

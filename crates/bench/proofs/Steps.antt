@@ -2,7 +2,7 @@
 use Prim.Native.Nat.{ℕ}
 use mathlib.Core.Path.{◌≡◌, refl}
 use mathlib.Core.Bool.{Bool, true, false}
-use Rattle.basics.specs.Choice.{if◌then◌else◌}
+use Rattle.basics.specs.Choice.{when◌then◌else◌}
 use Rattle.answer.specs.Answer.{plain_of}
 use Rattle.answer.proofs.Done.{Done}
 use Rattle.locator.specs.Locate.{locate_of}
@@ -42,12 +42,12 @@ module _ (b : Bench) (kind : ℕ) where
   on-strike = refl
 
   pub on-controller-reset : on_decoded b kind (Known (Reset false)) ≡ with_controller b (alone.on_reset b.controller kind)
-  unfolding on_decoded on_event on_reset if◌then◌else◌
+  unfolding on_decoded on_event on_reset when◌then◌else◌
   on-controller-reset = refl
 
   -- those of the multiplexer are done
   pub multiplexer-reset-done : Done kind (on_decoded b kind (Known (Reset true))).answer
-  unfolding on_decoded on_event on_reset if◌then◌else◌
+  unfolding on_decoded on_event on_reset when◌then◌else◌
   multiplexer-reset-done = (refl, refl)
 
   pub cycle-done : (address : ℕ) (read : Bool) → Done kind (on_decoded b kind (Known (Cycle address read))).answer
@@ -64,7 +64,7 @@ module _ (b : Bench) (kind : ℕ) where
 
   -- and leave the controller alone
   pub multiplexer-reset-aside : (on_decoded b kind (Known (Reset true))).bench.controller ≡ b.controller
-  unfolding on_decoded on_event on_reset if◌then◌else◌
+  unfolding on_decoded on_event on_reset when◌then◌else◌
   multiplexer-reset-aside = refl
 
   pub cycle-aside : (address : ℕ) (read : Bool) → (on_decoded b kind (Known (Cycle address read))).bench.controller ≡ b.controller

@@ -1,7 +1,7 @@
 -- What a record does to the two chips, and what is answered (document 01, "Records and what comes back"). Neither chip sees
 -- the other: each event goes to one of them, and the other stays as it is.
 use Rattle.std.specs.Prelude.{ℕ, Bool}
-use Rattle.basics.specs.Choice.{if◌then◌else◌}
+use Rattle.basics.specs.Choice.{when◌then◌else◌}
 use Rattle.answer.specs.Answer.{done_of, plain_of}
 use Rattle.answer.specs.declared.Answer.{Answer}
 use Rattle.locator.specs.Locate.{locate_of}
@@ -29,7 +29,7 @@ with_multiplexer b m a = record { bench = record { controller = b.controller; mu
 -- kind 5: the one chip or the other
 unfoldable pub on_reset : Bench → ℕ → Bool → Stepped
 on_reset b kind multiplexer =
-    if multiplexer then with_multiplexer b fresh_of (plain_of kind 0)
+    when multiplexer then with_multiplexer b fresh_of (plain_of kind 0)
     else with_controller b (alone.on_reset b.controller kind)
 
 -- kind 6: the cycle as it was judged, and the multiplexer after its write

@@ -10,7 +10,7 @@ use lib.ListN.{length, take, drop, replicate, length-append, take-append-drop}
 use lib.Seq.{take_at, drop_at, length-take-le}
 use borrow.Author.Tests.{eqb-true, ne_eqb, lt-ltb, le-ltb}
 use Rattle.basics.specs.Bits.{word_of}
-use Rattle.basics.specs.Choice.{if◌then◌else◌}
+use Rattle.basics.specs.Choice.{when◌then◌else◌}
 use Rattle.basics.proofs.Tests.{lt-or-ge}
 use Rattle.batch.specs.Fresh.{most_bytes}
 use Rattle.line.specs.Line.{fresh_line, outcome_of}
@@ -31,23 +31,23 @@ asked_of shut = Close
 
 -- what bytes begin with, by the first of them
 first-close : (rest : List ℕ) → first_of (2 ∷ rest) ≡ Close
-unfolding first_of if◌then◌else◌
+unfolding first_of when◌then◌else◌
 first-close rest = rw (ne_eqb (length (2 ∷ rest)) 0 (λ e. omega (arith, e)))
 
 first-cut : (rest : List ℕ) → first_of (1 ∷ rest) ≡ cut_of (1 ∷ rest)
-unfolding first_of if◌then◌else◌
+unfolding first_of when◌then◌else◌
 first-cut rest = rw (ne_eqb (length (1 ∷ rest)) 0 (λ e. omega (arith, e)))
 
 first-other : (x : ℕ) (rest : List ℕ) → (x ≡ 2 → ⊥) → (x ≡ 1 → ⊥) → first_of (x ∷ rest) ≡ Nothing
-unfolding first_of if◌then◌else◌
+unfolding first_of when◌then◌else◌
 first-other x rest n m = rw (ne_eqb (length (x ∷ rest)) 0 (λ e. omega (arith, e)), ne_eqb x 2 n, ne_eqb x 1 m)
 
 cut_short : (rest : List ℕ) → length rest < call_head → cut_of rest ≡ Nothing
-unfolding cut_of if◌then◌else◌
+unfolding cut_of when◌then◌else◌
 cut_short rest h = rw (lt-ltb (length rest) call_head h)
 
 cut-lacks : (rest : List ℕ) → length rest - call_head < cut_length rest → call_head ≤ length rest → cut_of rest ≡ Nothing
-unfolding cut_of if◌then◌else◌
+unfolding cut_of when◌then◌else◌
 cut-lacks rest h g = rw (le-ltb (length rest) call_head g, lt-ltb (length rest - call_head) (cut_length rest) h)
 
 first_said : (a : Ask) (rest : List ℕ) → first_of (bytes_in a ++ rest) ≡ asked_of a
@@ -118,7 +118,7 @@ list-said k (a ∷ asks) h =
 -- and its calls are made in order
 texts-goes : (k : ℕ) (l : Line) (rest : List ℕ) → (k ≡ 0 → ⊥) → (length_of (first_of rest) ≡ 0 → ⊥)
     → calls_text_in k l rest ≡ call_text_of l rest ++ calls_text_in (k - 1) (made_of l rest).line (drop (length_of (first_of rest)) rest)
-unfolding calls_text_in if◌then◌else◌
+unfolding calls_text_in when◌then◌else◌
 texts-goes k l rest left h =
     let e : k ≡ suc (k - 1) = omega arith in
     let one : calls_text_in (suc (k - 1)) l rest ≡ call_text_of l rest ++ calls_text_in (k - 1) (made_of l rest).line (drop (made_of l rest).used rest) =
@@ -126,7 +126,7 @@ texts-goes k l rest left h =
     ap (λ (n : ℕ). calls_text_in n l rest) e ∙ one ∙ ap (λ (n : ℕ). call_text_of l rest ++ calls_text_in (k - 1) (made_of l rest).line (drop n rest)) (made-used l rest)
 
 texts-none : (k : ℕ) (l : Line) → calls_text_in k l [] ≡ []
-unfolding calls_text_in first_of if◌then◌else◌
+unfolding calls_text_in first_of when◌then◌else◌
 texts-none zero l = refl
 texts-none (suc k) l = refl
 
@@ -209,19 +209,19 @@ written (suc k) rest e = written-some k rest e (written k)
 -- an input that is a list or not, and what is shown of it
 module _ (input : List ℕ) where
   listed : length input ≤ most_bytes → is_list_of input ≡ list_in (length input) input
-  unfolding is_list_of if◌then◌else◌
+  unfolding is_list_of when◌then◌else◌
   listed h = rw (le-ltb most_bytes (length input) h)
 
   too_long : most_bytes < length input → is_list_of input ≡ false
-  unfolding is_list_of if◌then◌else◌
+  unfolding is_list_of when◌then◌else◌
   too_long h = rw (lt-ltb most_bytes (length input) h)
 
   shown : is_list_of input ≡ true → cuts_text_of input ≡ calls_text_in (length input) fresh_line input
-  unfolding cuts_text_of if◌then◌else◌
+  unfolding cuts_text_of when◌then◌else◌
   shown e = rw e
 
   not-shown : is_list_of input ≡ false → cuts_text_of input ≡ no_call
-  unfolding cuts_text_of if◌then◌else◌
+  unfolding cuts_text_of when◌then◌else◌
   not-shown e = rw e
 
   refuses : (t : Bool) → is_list_of input ≡ t → ((asks : List Ask) → input ≡ list_of asks → ⊥) → cuts_text_of input ≡ no_call

@@ -4,7 +4,7 @@ use mathlib.Core.Path.{◌≡◌, refl, sym, ap, ◌∙◌}
 use mathlib.Core.Logic.{⊎_elim}
 use native.Mathlib.Omega.{arith}
 use borrow.Author.Tests.{lt-ltb, le-ltb, le-leb, lt-leb}
-use Rattle.basics.specs.Choice.{if◌then◌else◌}
+use Rattle.basics.specs.Choice.{when◌then◌else◌}
 use Rattle.basics.specs.Iterate.{iterate}
 use Rattle.basics.proofs.Iterating.{iterate-run}
 use Rattle.basics.proofs.Tests.{lt-or-ge}
@@ -23,15 +23,15 @@ use Rattle.clocks.specs.private.Skip.{Clear, hsync_columns, at_column, columns_o
 module _ (r : Registers) (c h : ℕ) where
   -- its closed form: R2 behind, R2 still ahead, R2 passed
   behind : (k : ℕ) → reg r 2 ≤ c → hsync_columns r c k h ≡ h - k
-  unfolding hsync_columns if◌then◌else◌
+  unfolding hsync_columns when◌then◌else◌
   behind k q = rw (le-leb (reg r 2) c q)
 
   pub ahead : (k : ℕ) → c + k < reg r 2 → hsync_columns r c k h ≡ h - k
-  unfolding hsync_columns if◌then◌else◌
+  unfolding hsync_columns when◌then◌else◌
   ahead k q = rw (lt-leb (reg r 2) c (omega arith), lt-ltb (c + k) (reg r 2) q)
 
   pub passed : (k : ℕ) → c < reg r 2 → reg r 2 ≤ c + k → hsync_columns r c k h ≡ reg r 3 % 16 - (c + k - reg r 2)
-  unfolding hsync_columns if◌then◌else◌
+  unfolding hsync_columns when◌then◌else◌
   passed k p q = rw (lt-leb (reg r 2) c p, le-ltb (c + k) (reg r 2) q)
 
   none : hsync_columns r c 0 h ≡ h

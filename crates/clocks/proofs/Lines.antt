@@ -6,7 +6,7 @@ use mathlib.Core.Logic.{⊎_elim}
 use native.Mathlib.Omega.{arith}
 use native.Mathlib.Nat.{suc-mul, zero-mul, eq-zero-or-pos, mul-le-mul}
 use borrow.Author.Tests.{eq-eqb, ne_eqb, lt-ltb, le-ltb}
-use Rattle.basics.specs.Choice.{if◌then◌else◌}
+use Rattle.basics.specs.Choice.{when◌then◌else◌}
 use Rattle.basics.specs.Iterate.{iterate}
 use Rattle.basics.proofs.Iterating.{iterate-run, iterate-turns}
 use Rattle.basics.proofs.Tests.{lt-or-ge}
@@ -25,20 +25,20 @@ use Rattle.clocks.proofs.Columns.{ahead, passed, placed, stepped, columns-at-onc
 -- HSYNC's closed form: no line, R2 past the line's end, R2 at its first column, R2 at another
 module _ (r : Registers) (h : ℕ) where
   none : hsync_lines r 0 h ≡ h
-  unfolding hsync_lines if◌then◌else◌
+  unfolding hsync_lines when◌then◌else◌
   none = refl
 
   unloaded : (m : ℕ) → reg r 0 < reg r 2 → hsync_lines r m h ≡ h - m * (reg r 0 + 1)
-  unfolding hsync_lines if◌then◌else◌
+  unfolding hsync_lines when◌then◌else◌
   unloaded zero l = rw zero-mul (omega arith)
   unloaded (suc m) l = rw (ne_eqb (suc m) 0 (λ q. omega arith), lt-ltb (reg r 0) (reg r 2) l)
 
   at_first : (m : ℕ) → reg r 2 ≡ 0 → hsync_lines r (suc m) h ≡ reg r 3 % 16
-  unfolding hsync_lines if◌then◌else◌
+  unfolding hsync_lines when◌then◌else◌
   at_first m e = rw (ne_eqb (suc m) 0 (λ q. omega arith), le-ltb (reg r 0) (reg r 2) (omega arith), eq-eqb (reg r 2) 0 e)
 
   at_other : (m : ℕ) → 0 < reg r 2 → reg r 2 ≤ reg r 0 → hsync_lines r (suc m) h ≡ reg r 3 % 16 - (reg r 0 - reg r 2) - 1
-  unfolding hsync_lines if◌then◌else◌
+  unfolding hsync_lines when◌then◌else◌
   at_other m p l =
       rw (ne_eqb (suc m) 0 (λ q. omega arith), le-ltb (reg r 0) (reg r 2) l, ne_eqb (reg r 2) 0 (λ q. omega arith))
 

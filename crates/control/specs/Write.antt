@@ -1,7 +1,7 @@
 -- Writes of control bits (document 01, "The multiplexer", and the control write flag of kind 6 in "Records and what comes back").
 use Rattle.std.specs.Prelude.{ℕ, ◌+◌, ◌-◌, ◌*◌, ◌/◌, ◌%◌, ◌^◌, Bool, not, ◌&&◌, ◌≡◌, eqb, leb, ltb}
 use Rattle.basics.specs.Bits.{bit}
-use Rattle.basics.specs.Choice.{if◌then◌else◌}
+use Rattle.basics.specs.Choice.{when◌then◌else◌}
 use Rattle.control.specs.declared.bits.Control.{Control}
 
 -- a number with bit k put to v: the bits above it, then v, then the bits below it
@@ -19,11 +19,11 @@ control_write_of a read = not read && is_control_of a
 -- A write to a bit's even address clears it, to its odd address sets it.
 -- Decision: a write to any other address leaves the bits as they are, so that this is said for every address.
 unfoldable pub written_of : Control → ℕ → Control
-written_of c a = if is_control_of a then record { bits = put_bit ((a - 0xFFC0) / 2) (a % 2) c.bits } else c
+written_of c a = when is_control_of a then record { bits = put_bit ((a - 0xFFC0) / 2) (a % 2) c.bits } else c
 
 -- the bits after a bus cycle: a read leaves them
 unfoldable pub after_of : Control → ℕ → Bool → Control
-after_of c a read = if read then c else written_of c a
+after_of c a read = when read then c else written_of c a
 
 -- A write, bit by bit: the address's own bit becomes 0 at an even address and 1 at an odd one, and every other bit stays.
 -- proofs/Written.antt shows it of each of the 32 addresses.

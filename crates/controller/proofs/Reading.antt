@@ -4,7 +4,7 @@ use mathlib.Core.Path.{◌≡◌, refl, sym}
 use mathlib.Core.Bool.{Bool, true, false}
 use native.Mathlib.Omega.{arith}
 use Rattle.basics.specs.Bits.{high_of, low_of}
-use Rattle.basics.specs.Choice.{if◌then◌else◌}
+use Rattle.basics.specs.Choice.{when◌then◌else◌}
 use Rattle.basics.proofs.Cases.{if_no, if-both, cases}
 use Rattle.raster.specs.Registers.{reg}
 use Rattle.pen.specs.Pen.{emptied_of, newest_of}
@@ -25,7 +25,7 @@ module _ (c : Controller) where
   named = c.regs.named
 
   pub read-cursor : 14 ≤ named → named ≤ 15 → read_of c true ≡ record { driven = true; value = reg c.regs named; controller = c }
-  unfolding read_of register_read_of value_of after_read_of if◌then◌else◌
+  unfolding read_of register_read_of value_of after_read_of when◌then◌else◌
   read-cursor l u =
       let k : named ≤ 17 = omega arith in
       let h : named < 16 = omega arith in
@@ -35,16 +35,16 @@ module _ (c : Controller) where
 
   pub read-high : named ≡ 16
       → read_of c true ≡ record { driven = true; value = high_of (newest_of c.pen).latch; controller = with_pen (emptied_of c.pen) c }
-  unfolding read_of register_read_of value_of after_read_of if◌then◌else◌
+  unfolding read_of register_read_of value_of after_read_of when◌then◌else◌
   read-high e = rw e
 
   pub read_low : named ≡ 17
       → read_of c true ≡ record { driven = true; value = low_of (newest_of c.pen).latch; controller = with_pen (emptied_of c.pen) c }
-  unfolding read_of register_read_of value_of after_read_of if◌then◌else◌
+  unfolding read_of register_read_of value_of after_read_of when◌then◌else◌
   read_low e = rw e
 
   floating : driven_of named ≡ false → read_of c true ≡ record { driven = false; value = 0; controller = c }
-  unfolding read_of register_read_of if◌then◌else◌
+  unfolding read_of register_read_of when◌then◌else◌
   floating h = sym (if_no _ _ _ _ h refl)
 
   pub read_below : named < 14 → read_of c true ≡ record { driven = false; value = 0; controller = c }
@@ -54,5 +54,5 @@ module _ (c : Controller) where
   read_above l = let h : 14 ≤ named = omega arith in floating (search cases depth 9)
 
   pub read-status : read_of c false ≡ record { driven = true; value = status_of c; controller = c }
-  unfolding read_of status_read_of if◌then◌else◌
+  unfolding read_of status_read_of when◌then◌else◌
   read-status = refl

@@ -1,6 +1,6 @@
 -- Register reads (document 01, "Controller registers"; kind 2 of the table of kinds; document 02, W2).
 use Rattle.std.specs.Prelude.{ℕ, ◌+◌, ◌*◌, Bool, true, false, ◌&&◌, ◌||◌, eqb, leb, ltb}
-use Rattle.basics.specs.Choice.{if◌then◌else◌}
+use Rattle.basics.specs.Choice.{when◌then◌else◌}
 use Rattle.basics.specs.Bits.{num, high_of, low_of}
 use Rattle.raster.specs.Registers.{reg}
 use Rattle.controller.specs.Chip.{with_pen}
@@ -20,7 +20,7 @@ status_of c = num (unread_of c.pen) * 64 + num (blank_of c) * 32
 -- A read asks it of those four alone that drive the bus.
 unfoldable pub value_of : Controller → ℕ → ℕ
 value_of c k =
-    if ltb k 16 then reg c.regs k else (if eqb k 16 then high_of (newest_of c.pen).latch else low_of (newest_of c.pen).latch)
+    when ltb k 16 then reg c.regs k else (when eqb k 16 then high_of (newest_of c.pen).latch else low_of (newest_of c.pen).latch)
 
 -- the registers that drive the bus when they are read: R14 to R17 and no other (document 02, W2)
 abbrev pub driven_of : ℕ → Bool
@@ -28,13 +28,13 @@ driven_of k = leb 14 k && leb k 17
 
 -- reading R16 or R17 clears L
 unfoldable pub after_read_of : Controller → ℕ → Controller
-after_read_of c k = if eqb k 16 || eqb k 17 then with_pen (emptied_of c.pen) c else c
+after_read_of c k = when eqb k 16 || eqb k 17 then with_pen (emptied_of c.pen) c else c
 
 -- RS 1 reads the named register, if it drives the bus; if not, the read brings 0 and changes nothing.
 -- Decision: the answer is what stood there before the read cleared L.
 unfoldable pub register_read_of : Controller → Reading
 register_read_of c =
-    if driven_of c.regs.named
+    when driven_of c.regs.named
     then record { driven = true; value = value_of c c.regs.named; controller = after_read_of c c.regs.named }
     else record { driven = false; value = 0; controller = c }
 
@@ -44,4 +44,4 @@ status_read_of c = record { driven = true; value = status_of c; controller = c }
 
 -- a read, by RS
 unfoldable pub read_of : Controller → Bool → Reading
-read_of c rs = if rs then register_read_of c else status_read_of c
+read_of c rs = when rs then register_read_of c else status_read_of c

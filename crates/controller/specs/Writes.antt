@@ -1,6 +1,6 @@
 -- Register writes (document 01, "Controller registers").
 use Rattle.std.specs.Prelude.{ℕ, ◌%◌, ◌^◌, Bool, ltb, get_or, set}
-use Rattle.basics.specs.Choice.{if◌then◌else◌}
+use Rattle.basics.specs.Choice.{when◌then◌else◌}
 use Rattle.raster.specs.Registers.{widths}
 use Rattle.raster.specs.declared.registers.Registers.{Registers}
 
@@ -15,8 +15,8 @@ addressed_of r v = record { held = r.held; named = v % 32 }
 -- RS 1: the register that it names takes the byte; 16 and up take nothing
 unfoldable pub stored_of : Registers → ℕ → Registers
 stored_of r v =
-    if ltb r.named 16 then record { held = set r.held r.named (kept_of r.named v); named = r.named } else r
+    when ltb r.named 16 then record { held = set r.held r.named (kept_of r.named v); named = r.named } else r
 
 -- a write, by RS
 unfoldable pub written_of : Registers → Bool → ℕ → Registers
-written_of r rs v = if rs then stored_of r v else addressed_of r v
+written_of r rs v = when rs then stored_of r v else addressed_of r v

@@ -8,7 +8,7 @@ use lib.Dec.{eqb, ltb}
 use lib.ListN.{length, get_or, drop}
 use borrow.Author.Tests.{eq-eqb, ne_eqb, eqb-false, le-ltb, ltb-false}
 use Rattle.basics.proofs.Cases.{if-both}
-use Rattle.basics.specs.Choice.{if◌then◌else◌}
+use Rattle.basics.specs.Choice.{when◌then◌else◌}
 use Rattle.rooms_text.specs.Rooms.{room_of}
 use Rattle.cuts_text.specs.Asked.{call_head, cut_length, cut_of, first_of, length_of, list_in}
 use Rattle.cuts_text.specs.declared.asked.Asked.{Asked}
@@ -16,7 +16,7 @@ use Rattle.cuts_text.specs.declared.asked.Asked.TheVariants.{Cut}
 
 -- nothing is a list, whatever its bound; anything else is none with a bound of none
 pub list-none : (k : ℕ) (rest : List ℕ) → length rest ≡ 0 → list_in k rest ≡ true
-unfolding list_in if◌then◌else◌
+unfolding list_in when◌then◌else◌
 list-none zero rest h = eq-eqb (length rest) 0 h
 list-none (suc k) rest h = rw (eq-eqb (length rest) 0 h)
 
@@ -27,13 +27,13 @@ list-bound k rest h e = rw e (ne_eqb (length rest) 0 h)
 -- a list that begins with no call, and one that does
 module _ (k : ℕ) (rest : List ℕ) (some : length rest ≡ 0 → ⊥) (left : k ≡ 0 → ⊥) where
   pub list-ends : length_of (first_of rest) ≡ 0 → list_in k rest ≡ false
-  unfolding list_in if◌then◌else◌
+  unfolding list_in when◌then◌else◌
   list-ends h =
       let e : k ≡ suc (k - 1) = omega arith in
       rw (e, ne_eqb (length rest) 0 some, eq-eqb (length_of (first_of rest)) 0 h)
 
   pub list-goes : (length_of (first_of rest) ≡ 0 → ⊥) → list_in k rest ≡ list_in (k - 1) (drop (length_of (first_of rest)) rest)
-  unfolding list_in if◌then◌else◌
+  unfolding list_in when◌then◌else◌
   list-goes h =
       let e : k ≡ suc (k - 1) = omega arith in
       let one : list_in (suc (k - 1)) rest ≡ list_in (k - 1) (drop (length_of (first_of rest)) rest) =
@@ -43,7 +43,7 @@ module _ (k : ℕ) (rest : List ℕ) (some : length rest ≡ 0 → ⊥) (left : 
 -- a cut that is whole
 pub cut-whole : (rest : List ℕ) (room long : ℕ) → room ≡ room_of (get_or rest 1 0) (get_or rest 2 0) → long ≡ cut_length rest
     → call_head ≤ length rest → long ≤ length rest - call_head → Cut room long ≡ cut_of rest
-unfolding cut_of if◌then◌else◌
+unfolding cut_of when◌then◌else◌
 cut-whole rest room long r e head h =
     rw (le-ltb (length rest) call_head head, le-ltb (length rest - call_head) (cut_length rest) (rw e at h)) (rw (r, e))
 

@@ -2,7 +2,7 @@
 -- 02, W3), so they are tried here. Decision: the form of the list is the project's own.
 use Rattle.std.specs.Prelude.{ℕ, zero, suc, ◌+◌, ◌-◌, Bool, true, false, List, eqb, ltb, length, get_or, drop}
 use Rattle.basics.specs.Bits.{word_of}
-use Rattle.basics.specs.Choice.{if◌then◌else◌}
+use Rattle.basics.specs.Choice.{when◌then◌else◌}
 use Rattle.batch.specs.Fresh.{most_bytes}
 use Rattle.rooms_text.specs.Rooms.{room_of}
 use Rattle.cuts_text.specs.declared.asked.Asked.{Asked}
@@ -19,16 +19,16 @@ cut_length rest = word_of (get_or rest 3 0) (get_or rest 4 0)
 -- a cut, where its head is whole and its bytes are all there
 unfoldable pub cut_of : List ℕ → Asked
 cut_of rest =
-    if ltb (length rest) call_head then Nothing
-    else if ltb (length rest - call_head) (cut_length rest) then Nothing
+    when ltb (length rest) call_head then Nothing
+    else when ltb (length rest - call_head) (cut_length rest) then Nothing
     else Cut (room_of (get_or rest 1 0) (get_or rest 2 0)) (cut_length rest)
 
 -- the call that bytes begin with: a 2 closes the line, and a 1 hands a cut to it
 unfoldable pub first_of : List ℕ → Asked
 first_of rest =
-    if eqb (length rest) 0 then Nothing
-    else if eqb (get_or rest 0 0) 2 then Close
-    else if eqb (get_or rest 0 0) 1 then cut_of rest
+    when eqb (length rest) 0 then Nothing
+    else when eqb (get_or rest 0 0) 2 then Close
+    else when eqb (get_or rest 0 0) 1 then cut_of rest
     else Nothing
 
 -- how many bytes say a call
@@ -41,11 +41,11 @@ length_of (Cut room long) = call_head + long
 unfoldable pub list_in : ℕ → List ℕ → Bool
 list_in zero rest = eqb (length rest) 0
 list_in (suc k) rest =
-    if eqb (length rest) 0 then true
-    else if eqb (length_of (first_of rest)) 0 then false
+    when eqb (length rest) 0 then true
+    else when eqb (length_of (first_of rest)) 0 then false
     else list_in k (drop (length_of (first_of rest)) rest)
 
 -- Whether an input is such a list; it has no more calls than bytes. Decision: no bytes are a list of no calls, and one that is too long is
 -- no list.
 unfoldable pub is_list_of : List ℕ → Bool
-is_list_of input = if ltb most_bytes (length input) then false else list_in (length input) input
+is_list_of input = when ltb most_bytes (length input) then false else list_in (length input) input

@@ -7,7 +7,7 @@ use lib.ListN.{length, take, drop, length-append}
 use lib.Seq.{take_at}
 use lib.Dec.{ltb}
 use borrow.Author.Tests.{lt-ltb, le-ltb}
-use Rattle.basics.specs.Choice.{if◌then◌else◌}
+use Rattle.basics.specs.Choice.{when◌then◌else◌}
 use Rattle.basics.specs.Lay.{Laid, Writes}
 use Rattle.basics.proofs.Cases.{if-both}
 use Rattle.basics.proofs.Laying.{laid-front, laid_same, writes_nothing, then-writes}
@@ -15,12 +15,12 @@ use Rattle.decimal.specs.Decimal.{decimal_in, most_digits, decimal_of}
 
 -- a number below ten has one digit
 pub one-digit : (k n : ℕ) → n < 10 → decimal_in (suc k) n ≡ (48 + n % 10) ∷ []
-unfolding decimal_in if◌then◌else◌
+unfolding decimal_in when◌then◌else◌
 one-digit k n h = rw (lt-ltb n 10 h)
 
 -- any other has its last one behind those of its tenth
 pub more-digits : (k n : ℕ) → 10 ≤ n → decimal_in (suc k) n ≡ decimal_in k (n / 10) ++ ((48 + n % 10) ∷ [])
-unfolding decimal_in if◌then◌else◌
+unfolding decimal_in when◌then◌else◌
 more-digits k n h = rw (le-ltb n 10 h)
 
 pub length-decimal : (k n : ℕ) → length (decimal_in k n) ≤ k

@@ -1,11 +1,11 @@
 -- Numbers as decimal digits, without zeros in front (document 02, W1: the numbers of a report, as its program tells them).
 use Rattle.std.specs.Prelude.{ℕ, zero, suc, ◌+◌, ◌*◌, ◌-◌, ◌/◌, ◌%◌, ◌^◌, ◌<◌, ◌≤◌, ◌≡◌, List, [], ◌∷◌, ◌++◌, ltb, length, get_or}
-use Rattle.basics.specs.Choice.{if◌then◌else◌}
+use Rattle.basics.specs.Choice.{when◌then◌else◌}
 
 -- the last k digits at the most, the highest first; the code of `0` is 48
 unfoldable pub decimal_in : ℕ → ℕ → List ℕ
 decimal_in zero n = []
-decimal_in (suc k) n = if ltb n 10 then (48 + n % 10) ∷ [] else decimal_in k (n / 10) ++ ((48 + n % 10) ∷ [])
+decimal_in (suc k) n = when ltb n 10 then (48 + n % 10) ∷ [] else decimal_in k (n / 10) ++ ((48 + n % 10) ∷ [])
 
 -- the most digits that a number of 64 bits has
 abbrev pub most_digits : ℕ

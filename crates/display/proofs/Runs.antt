@@ -1,6 +1,6 @@
 -- Fetches in a run are one addition. Assumes nothing.
 use Rattle.std.proofs.Common.{◌≡◌, ℕ, suc, ◌+◌, ◌%◌, ◌<◌, ◌≤◌, sym, ap, ◌∙◌, arith, lt-ltb}
-use Rattle.basics.specs.Choice.{if◌then◌else◌}
+use Rattle.basics.specs.Choice.{when◌then◌else◌}
 use Rattle.basics.specs.Iterate.{iterate}
 use Rattle.basics.proofs.Iterating.{iterate-run, iterate-add}
 use Rattle.display.specs.declared.counter.Display.{Display}
@@ -10,7 +10,7 @@ use Rattle.display.specs.private.Run.{Run}
 
 module _ (m : Mode) (d : Display) where
   one_more : (k : ℕ) → d.b % 16 + k < 15 → fetch_of m (with_b (d.b + k) d) ≡ with_b (d.b + suc k) d
-  unfolding fetch_of if◌then◌else◌
+  unfolding fetch_of when◌then◌else◌
   one_more k l =
       let e : d.b + k + 1 ≡ d.b + suc k = omega arith in
       rw (lt-ltb ((d.b + k) % 16) 15 (omega arith)) (ap (λ (b : ℕ). with_b b d) e)

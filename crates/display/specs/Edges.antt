@@ -1,7 +1,7 @@
 -- HS and DA0 at the display counter (document 01, "The multiplexer", the paragraph on display modes).
 use Rattle.std.specs.Prelude.{ℕ, ◌+◌, ◌*◌, ◌/◌, ◌%◌, ◌^◌, Bool, ◌==◌}
 use Rattle.basics.specs.Bits.{bit, num}
-use Rattle.basics.specs.Choice.{if◌then◌else◌}
+use Rattle.basics.specs.Choice.{when◌then◌else◌}
 use Rattle.display.specs.declared.counter.Display.{Display}
 use Rattle.display.specs.declared.modes.Mode.{Mode}
 use Rattle.display.specs.Counter.{with_b, count_x, count_y}
@@ -15,8 +15,8 @@ cleared_to k d = with_b (d.b / 2 ^ (k + 1) * 2 ^ (k + 1) + d.b % 2) d
 -- Decision: a mode whose top bit is neither 3 nor 4 (in the table: none) clears nothing.
 unfoldable pub fall_of : Mode → Display → Display
 fall_of m d =
-    if m.top == 4 then (if bit 4 d.b then count_y m (cleared_to 4 d) else cleared_to 4 d)
-    else if m.top == 3 then (if bit 3 d.b then count_x m (cleared_to 3 d) else cleared_to 3 d)
+    when m.top == 4 then (when bit 4 d.b then count_y m (cleared_to 4 d) else cleared_to 4 d)
+    else when m.top == 3 then (when bit 3 d.b then count_x m (cleared_to 3 d) else cleared_to 3 d)
     else d
 
 -- A rise of HS with DA0 high preloads: F goes to B9..B15, B1..B8 and both dividers become 0. B0 is left to what follows.

@@ -9,7 +9,7 @@ use native.Mathlib.Omega.{arith}
 use lib.ListN.{length, take, drop, length-append, length-drop}
 use lib.Seq.{drop-nil, drop-length, take_at, drop_at}
 use Rattle.basics.proofs.Laying.{laid_none, laid-front}
-use Rattle.basics.specs.Choice.{if◌then◌else◌}
+use Rattle.basics.specs.Choice.{when◌then◌else◌}
 use Rattle.replay.specs.Run.{Run, written_of}
 use Rattle.replay.proofs.Replaying.{length-written}
 use Rattle.every_replay.proofs.Counts.{sound}

@@ -6,7 +6,7 @@ use mathlib.Core.Logic.{◌⊎◌, inl, inr, ⊎_elim}
 use native.Mathlib.Omega.{arith}
 use lib.Dec.{eqb}
 use borrow.Author.Tests.{eqb-true, eqb-false}
-use Rattle.basics.specs.Choice.{if◌then◌else◌}
+use Rattle.basics.specs.Choice.{when◌then◌else◌}
 use Rattle.basics.specs.Bits.{word_of, high_of, low_of}
 use Rattle.basics.specs.Width.{counted_of}
 use Rattle.basics.specs.declared.width.Width.TheVariants.{Five, Eight}
@@ -39,20 +39,20 @@ module _ (r : Registers) (s : Scan) where
 
     -- and that is MA and 2, where addresses are counted on from the row's base
     pub latch-linear : by_rows_of r ≡ false → latch_of r s ≡ (ma_of r s + 2) % 16384
-    unfolding if◌then◌else◌ address_of ma_of
+    unfolding when◌then◌else◌ address_of ma_of
     latch-linear b = latch-within ∙ rw b (omega arith)
 
 -- two places in rows of one frame whose addresses two columns on are the same have the same address themselves
 pub two_back : (r : Registers) (start b c row other x y : ℕ)
     → address_of r start b row (x + 2) ≡ address_of r start c other (y + 2) → address_of r start b row x ≡ address_of r start c other y
-unfolding if◌then◌else◌ address_of
+unfolding when◌then◌else◌ address_of
 two_back r start b c row other x y = go (by_rows_of r)
   where
     go : (t : Bool)
-        → (if t then word_of ((high_of start + row) % 64) ((low_of start + (x + 2)) % 256) else (b + (x + 2)) % 16384)
-        ≡ (if t then word_of ((high_of start + other) % 64) ((low_of start + (y + 2)) % 256) else (c + (y + 2)) % 16384)
-        → (if t then word_of ((high_of start + row) % 64) ((low_of start + x) % 256) else (b + x) % 16384)
-        ≡ (if t then word_of ((high_of start + other) % 64) ((low_of start + y) % 256) else (c + y) % 16384)
+        → (when t then word_of ((high_of start + row) % 64) ((low_of start + (x + 2)) % 256) else (b + (x + 2)) % 16384)
+        ≡ (when t then word_of ((high_of start + other) % 64) ((low_of start + (y + 2)) % 256) else (c + (y + 2)) % 16384)
+        → (when t then word_of ((high_of start + row) % 64) ((low_of start + x) % 256) else (b + x) % 16384)
+        ≡ (when t then word_of ((high_of start + other) % 64) ((low_of start + y) % 256) else (c + y) % 16384)
     go true e = omega arith
     go false e = omega arith
 
@@ -72,16 +72,16 @@ module _ (r : Registers) where
 
   -- the column after a column
   unfoldable turned : ℕ → ℕ
-  turned column = if eqb column (reg r 0) then 0 else counted_of Eight column 1
+  turned column = when eqb column (reg r 0) then 0 else counted_of Eight column 1
 
   -- a character time anywhere in the row but at the end of its last line: it turns the column, and the line only at the line's end
   next-in-row : (s : Scan) → s.adjusting ≡ false → (s.column ≡ reg r 0 → s.line ≡ reg r 9 → ⊥)
       → (l : ℕ) × (next_of r s ≡ in_row s (turned s.column) l) × (l ≤ s.line + 1) × ((turned s.column ≡ 0) ⊎ (l ≡ s.line))
-  unfolding if◌then◌else◌ turned
+  unfolding when◌then◌else◌ turned
   next-in-row s a n = go (eqb s.column (reg r 0)) refl
     where
       go : (t : Bool) → eqb s.column (reg r 0) ≡ t
-          → (let column : ℕ = if t then 0 else counted_of Eight s.column 1 in
+          → (let column : ℕ = when t then 0 else counted_of Eight s.column 1 in
           (l : ℕ) × (next_of r s ≡ in_row s column l) × (l ≤ s.line + 1) × ((column ≡ 0) ⊎ (l ≡ s.line)))
       go true e = (counted_of Five s.line 1, next_down r s (eqb-true _ _ e) a (n (eqb-true _ _ e)), omega arith, inl refl)
       go false e = (s.line, next-along r s (eqb-false _ _ e), omega arith, inr refl)

@@ -1,7 +1,7 @@
 -- What is true of the character that the scan is at (document 01, "One character time"): picture, MA, cursor, and the latch that a
 -- pen strike there leaves (request W5).
 use Rattle.std.specs.Prelude.{ℕ, ◌+◌, ◌%◌, Bool, not, ◌&&◌, eqb, ltb, leb}
-use Rattle.basics.specs.Choice.{if◌then◌else◌}
+use Rattle.basics.specs.Choice.{when◌then◌else◌}
 use Rattle.basics.specs.Bits.{bit, word_of, high_of, low_of}
 use Rattle.raster.specs.Registers.{reg, by_rows_of}
 use Rattle.raster.specs.Scan.{next_of}
@@ -17,7 +17,7 @@ picture_of r s = not s.adjusting && ltb s.row (reg r 6) && ltb s.column (reg r 1
 -- set, the row added to the start's high part and the column to its low byte, each wrapping by itself
 unfoldable pub address_of : Registers → (start base row column : ℕ) → ℕ
 address_of r start base row column =
-    if by_rows_of r then word_of ((high_of start + row) % 64) ((low_of start + column) % 256)
+    when by_rows_of r then word_of ((high_of start + row) % 64) ((low_of start + column) % 256)
     else (base + column) % 16384
 
 -- MA
@@ -32,7 +32,7 @@ latch_of r s = ma_of r (next_of r (next_of r s))
 -- blink, by R10 bits 6 and 5: 00 always shows, 01 never, 10 while field bit 3 is 0, 11 while field bit 4 is 0
 unfoldable pub blink_of : ℕ → ℕ → Bool
 blink_of r10 field =
-    if bit 6 r10 then (if bit 5 r10 then not (bit 4 field) else not (bit 3 field)) else not (bit 5 r10)
+    when bit 6 r10 then (when bit 5 r10 then not (bit 4 field) else not (bit 3 field)) else not (bit 5 r10)
 
 -- the cursor's lines: from the low five bits of R10 to R11
 unfoldable pub cursor_line_of : Registers → ℕ → Bool

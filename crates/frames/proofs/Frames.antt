@@ -10,7 +10,7 @@ use native.Mathlib.Omega.{arith}
 use lib.Dec.{eqb}
 use lib.Arith.{digits_div, digits_mod}
 use borrow.Author.Tests.{eq-eqb, ne_eqb}
-use Rattle.basics.specs.Choice.{if◌then◌else◌}
+use Rattle.basics.specs.Choice.{when◌then◌else◌}
 use Rattle.basics.specs.Iterate.{iterate}
 use Rattle.basics.proofs.Iterating.{iterate-add}
 use Rattle.basics.proofs.Tests.{lt-or-ge}
@@ -65,8 +65,8 @@ next-whole t f z h =
     (ap (λ (n : ℕ). n / f) e ∙ digits_div (suc (t / f)) z, ap (λ (n : ℕ). n % f) e ∙ digits_mod (suc (t / f)) z)
 
 -- the field after a character time
-step_field : {r : Registers} {s z : Scan} {m : Move} → Step r s m z → z.field ≡ (if begins_frame m then (s.field + 1) % 32 else s.field)
-unfolding if◌then◌else◌
+step_field : {r : Registers} {s z : Scan} {m : Move} → Step r s m z → z.field ≡ (when begins_frame m then (s.field + 1) % 32 else s.field)
+unfolding when◌then◌else◌
 step_field (in-line h) = refl
 step_field (at-end h (line-down a l)) = refl
 step_field (at-end h (row-down a l w)) = refl
@@ -81,14 +81,14 @@ module _ (r : Registers) (w : Narrow r) where
 
   -- the field one character time on: it counts where a frame begins
   field-on : (t : ℕ) → (iterate (next_of r) (suc t) (top_of r 0)).field
-      ≡ (if eqb (suc t % F) 0 then ((iterate (next_of r) t (top_of r 0)).field + 1) % 32 else (iterate (next_of r) t (top_of r 0)).field)
+      ≡ (when eqb (suc t % F) 0 then ((iterate (next_of r) t (top_of r 0)).field + 1) % 32 else (iterate (next_of r) t (top_of r 0)).field)
   unfolding iterate begins_at
   field-on t =
       let s = iterate (next_of r) t (top_of r 0) in
-      step_field (step r s) ∙ ap (λ (b : Bool). if b then (s.field + 1) % 32 else s.field) (begins-when r w 0 t)
+      step_field (step r s) ∙ ap (λ (b : Bool). when b then (s.field + 1) % 32 else s.field) (begins-when r w 0 t)
 
   field-after : (t : ℕ) → (iterate (next_of r) t (top_of r 0)).field ≡ (t / F) % 32
-  unfolding iterate if◌then◌else◌
+  unfolding iterate when◌then◌else◌
   field-after zero = rw (div-eq_of_lt (some-times r w))
   field-after (suc t) =
       ⊎_elim

@@ -7,7 +7,7 @@ use native.Mathlib.Nat.{mod-eq_of_lt}
 use native.Mathlib.Omega.{arith}
 use lib.Arith.{digits_lt, digits_div, digits_mod}
 use borrow.Author.Tests.{lt-ltb, le-ltb}
-use Rattle.basics.specs.Choice.{if◌then◌else◌}
+use Rattle.basics.specs.Choice.{when◌then◌else◌}
 use Rattle.basics.specs.Iterate.{iterate}
 use Rattle.raster.specs.Registers.{reg, start_of}
 use Rattle.raster.specs.Scan.{top_of, next_of}
@@ -25,11 +25,11 @@ module _ (r : Registers) where
 
   module _ (line column field : ℕ) where
     pub on-rows : line < row_lines r → ((scan_on r line column field).adjusting ≡ false) × ((scan_on r line column field).row ≡ line / (reg r 9 + 1)) × ((scan_on r line column field).column ≡ column)
-    unfolding scan_on if◌then◌else◌
+    unfolding scan_on when◌then◌else◌
     on-rows h = (rw (lt-ltb line (row_lines r) h), rw (lt-ltb line (row_lines r) h), rw (lt-ltb line (row_lines r) h))
 
     pub on-adjust : row_lines r ≤ line → (scan_on r line column field).adjusting ≡ true
-    unfolding scan_on if◌then◌else◌
+    unfolding scan_on when◌then◌else◌
     on-adjust h = rw (le-ltb line (row_lines r) h)
 
 -- all of a place but its column, start and field
@@ -39,7 +39,7 @@ at r line row base column field adjusting =
 
 place_is : (r : Registers) (line row base column field : ℕ) (b : Bool) → Region r line row base b
     → at r line row base column field b ≡ scan_on r (line_no r line row b) column field
-unfolding scan_on line_no if◌then◌else◌
+unfolding scan_on line_no when◌then◌else◌
 place_is r line row base column field false q =
     let n = row * (reg r 9 + 1) + line in
     let less : line < reg r 9 + 1 = omega arith in

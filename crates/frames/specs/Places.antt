@@ -1,7 +1,7 @@
 -- Where the scan can be in its frame, and where it is at each character time after a reset, while no register is written (demand 3;
 -- document 01, "One character time", worked out).
 use Rattle.std.specs.Prelude.{ℕ, ◌+◌, ◌*◌, ◌-◌, ◌/◌, ◌%◌, ◌<◌, ◌≤◌, ◌≡◌, Bool, true, false, ltb}
-use Rattle.basics.specs.Choice.{if◌then◌else◌}
+use Rattle.basics.specs.Choice.{when◌then◌else◌}
 use Rattle.raster.specs.Registers.{reg, start_of, row_base_of}
 use Rattle.raster.specs.declared.registers.Registers.{Registers}
 use Rattle.raster.specs.declared.scan.Scan.{Scan}
@@ -29,7 +29,7 @@ pub record Placed (r : Registers) (s : Scan) : Type 0 where
 -- the place at a column of a line, the frame's lines being counted from 0: R9+1 lines to a row, and then the adjust lines
 unfoldable pub scan_on : Registers → (line column field : ℕ) → Scan
 scan_on r line column field =
-    if ltb line (row_lines r) then record {
+    when ltb line (row_lines r) then record {
       column = column;
       line = line % (reg r 9 + 1);
       row = line / (reg r 9 + 1);

@@ -9,7 +9,7 @@ use native.Mathlib.Omega.{arith}
 use borrow.Author.Tests.{eq-eqb, ne_eqb}
 use lib.ListN.{length, drop, length-append}
 use lib.Seq.{drop-nil}
-use Rattle.basics.specs.Choice.{if◌then◌else◌}
+use Rattle.basics.specs.Choice.{when◌then◌else◌}
 use Rattle.basics.specs.Lay.{laid_at}
 use Rattle.basics.proofs.Laying.{laid_none}
 use Rattle.bench.specs.declared.step.Bench.{Bench}
@@ -43,7 +43,7 @@ pub is_open : (l : Line) → l.closed ≡ false → open_of l.bench l.held ≡ l
 is_open l o = ap (λ (t : Bool). record { bench = l.bench; held = l.held; closed = t }) (sym o)
 
 pub closed-outcome : (l : Line) → l.closed ≡ true → (cut : List ℕ) (room : ℕ) → outcome_of l cut room ≡ unmoved_of l 12
-unfolding outcome_of if◌then◌else◌
+unfolding outcome_of when◌then◌else◌
 closed-outcome l h cut room = rw h
 
 pub closed-does : (l : Line) (cut out : List ℕ) → l.closed ≡ true → Does l cut out (called_of (unmoved_of l 12)) out
@@ -52,11 +52,11 @@ closed-does l cut out h = does l cut out (unmoved_of l 12) (closed-outcome l h c
 -- an open line, by how the run over its bytes ends
 module _ (l : Line) (cut : List ℕ) (room : ℕ) (o : l.closed ≡ false) where
   pub full-outcome : (run_over l cut room).ending ≡ 4 → outcome_of l cut room ≡ full_of l (run_over l cut room)
-  unfolding outcome_of if◌then◌else◌
+  unfolding outcome_of when◌then◌else◌
   full-outcome e = rw (o, eq-eqb (run_over l cut room).ending 4 e)
 
   pub waits-outcome : ((run_over l cut room).ending ≡ 4 → ⊥) → outcome_of l cut room ≡ waits_of l cut (run_over l cut room)
-  unfolding outcome_of if◌then◌else◌
+  unfolding outcome_of when◌then◌else◌
   waits-outcome n = rw (o, ne_eqb (run_over l cut room).ending 4 n)
 
 -- a run ends with 4, or it does not
@@ -105,12 +105,12 @@ module _ (l : Line) (cut out : List ℕ) (o : l.closed ≡ false) where
 
 -- closing, of a closed line and of an open one
 pub closing-closed : (l : Line) → l.closed ≡ true → closing_of l ≡ unmoved_of l 12
-unfolding closing_of if◌then◌else◌
+unfolding closing_of when◌then◌else◌
 closing-closed l h = rw h
 
 pub closing-open : (l : Line) → l.closed ≡ false
     → closing_of l ≡ unmoved_of (record { bench = l.bench; held = l.held; closed = true }) (closing_number l.held)
-unfolding closing_of if◌then◌else◌
+unfolding closing_of when◌then◌else◌
 closing-open l h = rw h
 
 pub closed-close : (l : Line) → l.closed ≡ true → called_of (unmoved_of l 12) ≡ close_of l

@@ -4,7 +4,7 @@ use Prim.Native.Nat.{ℕ, ◌≤◌, ◌<◌}
 use mathlib.Core.Path.{◌≡◌, refl, sym, ◌∙◌}
 use lib.Dec.{ltb}
 use borrow.Author.Tests.{ltb-true, ltb-false}
-use Rattle.basics.specs.Choice.{if◌then◌else◌}
+use Rattle.basics.specs.Choice.{when◌then◌else◌}
 use Rattle.line.specs.private.Calls.{meets_of}
 use Rattle.line.specs.declared.calls.Met.{Met}
 use Rattle.line.specs.declared.calls.Met.TheVariants.{Closed, Short, Full, Whole}
@@ -17,7 +17,7 @@ Tests closed short full Full = (closed ≡ false) × (short ≡ false) × (full 
 Tests closed short full Whole = (closed ≡ false) × (short ≡ false) × (full ≡ false)
 
 tests : (closed short full : Bool) → Tests closed short full (meets_of closed short full)
-unfolding meets_of if◌then◌else◌
+unfolding meets_of when◌then◌else◌
 tests true short full = refl
 tests false true full = (refl, refl)
 tests false false true = (refl, refl, refl)

@@ -1,6 +1,6 @@
 -- The two calls on a line (document 02, W3). What a cut gives is said by the replay that stands: a run over the bytes held and the cut.
 use Rattle.std.specs.Prelude.{ℕ, ◌-◌, true, false, List, [], ◌++◌, eqb, length, drop}
-use Rattle.basics.specs.Choice.{if◌then◌else◌}
+use Rattle.basics.specs.Choice.{when◌then◌else◌}
 use Rattle.basics.specs.Lay.{laid_at}
 use Rattle.answer.specs.declared.Answer.{Answer}
 use Rattle.bench.specs.declared.step.Bench.{Bench}
@@ -64,14 +64,14 @@ full_of l r =
 -- else 0. So no cut ends with 3: what a run leaves of a record waits for the next cut.
 unfoldable pub outcome_of : Line → List ℕ → ℕ → Outcome
 outcome_of l cut room =
-    if l.closed then unmoved_of l 12
-    else if eqb (run_over l cut room).ending 4 then full_of l (run_over l cut room)
+    when l.closed then unmoved_of l 12
+    else when eqb (run_over l cut room).ending 4 then full_of l (run_over l cut room)
     else waits_of l cut (run_over l cut room)
 
 -- Closing. Decision: the bytes still held stay in the line, where they can be looked at; no call reads them again, since each meets 12.
 unfoldable pub closing_of : Line → Outcome
 closing_of l =
-    if l.closed then unmoved_of l 12
+    when l.closed then unmoved_of l 12
     else unmoved_of (record { bench = l.bench; held = l.held; closed = true }) (closing_number l.held)
 
 -- what a call returns: its answers by their number

@@ -1,6 +1,6 @@
 -- What the listing program prints (document 01, "Records and what comes back").
 use Rattle.std.specs.Prelude.{ℕ, ◌+◌, List, [], ◌∷◌, ◌++◌, ltb, length}
-use Rattle.basics.specs.Choice.{if◌then◌else◌}
+use Rattle.basics.specs.Choice.{when◌then◌else◌}
 use Rattle.replay.specs.Run.{Run}
 use Rattle.batch.specs.Fresh.{most_bytes, most_output, fresh_run_of}
 use Rattle.text.specs.Speech.{too_long}
@@ -20,4 +20,4 @@ batch_listing_of batch = listed_of (fresh_run_of batch most_output)
 
 -- more bytes than a batch may have are not replayed at all
 unfoldable pub listing_of : List ℕ → List ℕ
-listing_of input = if ltb most_bytes (length input) then too_long else batch_listing_of input
+listing_of input = when ltb most_bytes (length input) then too_long else batch_listing_of input

@@ -2,7 +2,7 @@
 -- can fit, or one column after the other. Assumes nothing.
 use Rattle.std.proofs.Common.{◌≡◌, ℕ, zero, suc, ◌+◌, ◌-◌, ◌<◌, ◌≤◌, Bool, true, false, List, [], ◌∷◌, ◌++◌, map, sym, refl, ap, ◌∙◌, append_assoc, append-nil, add-zero, add-suc, suc-add, zero-add, add-one, arith}
 use mathlib.Core.List.{map-append}
-use Rattle.basics.specs.Choice.{if◌then◌else◌}
+use Rattle.basics.specs.Choice.{when◌then◌else◌}
 use Rattle.basics.specs.Count.{count}
 use Rattle.basics.proofs.Counting.{count-append}
 use Rattle.raster.specs.declared.registers.Registers.{Registers}
@@ -13,11 +13,11 @@ use Rattle.locator.specs.declared.fit.Fit.{Fit}
 use Rattle.locator.specs.declared.fit.Fit.TheVariants.{Free, One, Many}
 
 keep_append : {A : Type 0} (f : A → Bool) (l m : List A) → keep f (l ++ m) ≡ keep f l ++ keep f m
-unfolding if◌then◌else◌ keep
+unfolding when◌then◌else◌ keep
 keep_append f [] m = refl
 keep_append f (a ∷ l) m = go (f a) (keep_append f l m)
   where
-    go : (b : Bool) → keep f (l ++ m) ≡ keep f l ++ keep f m → (if b then a ∷ keep f (l ++ m) else keep f (l ++ m)) ≡ (if b then a ∷ keep f l else keep f l) ++ keep f m
+    go : (b : Bool) → keep f (l ++ m) ≡ keep f l ++ keep f m → (when b then a ∷ keep f (l ++ m) else keep f (l ++ m)) ≡ (when b then a ∷ keep f l else keep f l) ++ keep f m
     go true e = ap (λ (k : List _). a ∷ k) e
     go false e = e
 
@@ -64,15 +64,15 @@ rows_more r latch n =
     ∙ fit-joined (fits_of r latch) (cells_from r 0 n) (row_cells r n)
 
 keep-skip : (f : Cell → Bool) (c : Cell) (l : List Cell) → (f c ≡ true → ⊥) → keep f (c ∷ l) ≡ keep f l
-unfolding if◌then◌else◌ keep
+unfolding when◌then◌else◌ keep
 keep-skip f c l h = go (f c) refl
   where
-    go : (b : Bool) → f c ≡ b → (if b then c ∷ keep f l else keep f l) ≡ keep f l
+    go : (b : Bool) → f c ≡ b → (when b then c ∷ keep f l else keep f l) ≡ keep f l
     go true e = absurd (h e)
     go false e = refl
 
-kept-one : (b : Bool) (c : Cell) → the_fit (if b then c ∷ [] else []) ≡ (if b then One c else Free)
-unfolding if◌then◌else◌ the_fit
+kept-one : (b : Bool) (c : Cell) → the_fit (when b then c ∷ [] else []) ≡ (when b then One c else Free)
+unfolding when◌then◌else◌ the_fit
 kept-one true c = refl
 kept-one false c = refl
 

@@ -3,7 +3,7 @@
 use Rattle.std.proofs.Common.{◌≡◌, ℕ, zero, suc, ◌+◌, ◌*◌, ◌<◌, ◌≤◌, Bool, true, false, List, [], ◌∷◌, ◌++◌, map, sym, refl, ap, ◌∙◌, ⊎_elim, eq-or-lt_of_le, arith}
 use mathlib.Core.List.Memᴰ
 use mathlib.Core.List.{Memᴰ}
-use Rattle.basics.specs.Choice.{if◌then◌else◌}
+use Rattle.basics.specs.Choice.{when◌then◌else◌}
 use Rattle.basics.specs.Count.{count}
 use Rattle.raster.specs.Registers.{reg}
 use Rattle.raster.specs.declared.registers.Registers.{Registers}
@@ -16,20 +16,20 @@ use Rattle.locator.specs.declared.fit.Fit.TheVariants.{One, Many}
 
 -- membership in a kept list
 module _ {A : Type 0} (f : A → Bool) where
-  later : (b : Bool) (a : A) {x : A} {k : List A} → Memᴰ x k → Memᴰ x (if b then a ∷ k else k)
-  unfolding if◌then◌else◌
+  later : (b : Bool) (a : A) {x : A} {k : List A} → Memᴰ x k → Memᴰ x (when b then a ∷ k else k)
+  unfolding when◌then◌else◌
   later true a m = Memᴰ.tail m
   later false a m = m
 
   mem-keep : (x : A) (l : List A) → Memᴰ x l → f x ≡ true → Memᴰ x (keep f l)
-  unfolding if◌then◌else◌ keep
+  unfolding when◌then◌else◌ keep
   mem-keep x [] m e = absurd (Memᴰ.not-nil m)
   mem-keep x (a ∷ l) m e =
       ⊎_elim (λ (p : x ≡ a). rw (ap f (sym p) ∙ e) (Memᴰ.head p)) (λ p. later (f a) a (mem-keep x l p e)) (Memᴰ.cases_cons m)
 
   kept : (x a : A) (k l : List A) (b : Bool) → f a ≡ b → (Memᴰ x k → Memᴰ x l × (f x ≡ true))
-      → Memᴰ x (if b then a ∷ k else k) → Memᴰ x (a ∷ l) × (f x ≡ true)
-  unfolding if◌then◌else◌
+      → Memᴰ x (when b then a ∷ k else k) → Memᴰ x (a ∷ l) × (f x ≡ true)
+  unfolding when◌then◌else◌
   kept x a k l true e h m =
       ⊎_elim (λ (p : x ≡ a). (Memᴰ.head p, ap f p ∙ e)) (λ p. (Memᴰ.tail (h p).0, (h p).1)) (Memᴰ.cases_cons m)
   kept x a k l false e h m = (Memᴰ.tail (h m).0, (h m).1)
@@ -89,11 +89,11 @@ rising-append lo mid hi [] m p q = rising-from lo mid hi m p q
 rising-append lo mid hi (c ∷ l) m p q = (p.0, rising-append (suc (place c)) mid hi l m p.1 q)
 
 rising-keep : (f : Cell → Bool) (lo hi : ℕ) (l : List Cell) → Rising lo l hi → Rising lo (keep f l) hi
-unfolding if◌then◌else◌ keep Rising
+unfolding when◌then◌else◌ keep Rising
 rising-keep f lo hi [] q = q
 rising-keep f lo hi (c ∷ l) q = go (f c) (rising-keep f (suc (place c)) hi l q.1)
   where
-    go : (b : Bool) → Rising (suc (place c)) (keep f l) hi → Rising lo (if b then c ∷ keep f l else keep f l) hi
+    go : (b : Bool) → Rising (suc (place c)) (keep f l) hi → Rising lo (when b then c ∷ keep f l else keep f l) hi
     go true k = (q.0, k)
     go false k = rising-from lo (suc (place c)) hi (keep f l) (omega arith) k
 

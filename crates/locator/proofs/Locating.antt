@@ -1,7 +1,7 @@
 -- What the locator's answer goes by, and the cell of a picture strike. Assumes nothing.
 use Rattle.std.proofs.Common.{◌≡◌, ◌≤◌, Bool, true, false, eqb, ◌⊎◌, refl, ap, ◌∙◌, ap₂, inl, inr, eqb-true}
 use borrow.Author.Tests.{eqb-false}
-use Rattle.basics.specs.Choice.{if◌then◌else◌}
+use Rattle.basics.specs.Choice.{when◌then◌else◌}
 use Rattle.raster.specs.Registers.{reg, start_of, row_base_of}
 use Rattle.raster.specs.declared.registers.Registers.{Registers}
 use Rattle.raster.specs.declared.scan.Scan.{Scan}
@@ -25,20 +25,20 @@ locate-alike c d r h n = rw (r, h, n)
 
 module _ (c : Controller) where
   pub locate-none : holds_of c.pen ≡ false → locate_of c ≡ Unstruck
-  unfolding locate_of if◌then◌else◌
+  unfolding locate_of when◌then◌else◌
   locate-none h = rw h
 
   pub locate-newest : holds_of c.pen ≡ true → locate_of c ≡ strike_found_of c.regs (newest_of c.pen)
-  unfolding locate_of if◌then◌else◌
+  unfolding locate_of when◌then◌else◌
   locate-newest h = rw h
 
 module _ (r : Registers) (s : Strike) where
   pub found_inside : s.inside ≡ true → strike_found_of r s ≡ named_of (fit_of r s.latch)
-  unfolding strike_found_of if◌then◌else◌
+  unfolding strike_found_of when◌then◌else◌
   found_inside h = rw h
 
   pub found-outside : s.inside ≡ false → strike_found_of r s ≡ Outside
-  unfolding strike_found_of if◌then◌else◌
+  unfolding strike_found_of when◌then◌else◌
   found-outside h = rw h
 
 -- the cell of a place in the picture, and that it fits what a strike there latches

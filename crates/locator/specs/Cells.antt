@@ -1,7 +1,7 @@
 -- The picture's cells, and which of them a latch fits (document 01, "The locator", and request W5). Cells are a list, row by row, and so
 -- are a cell's lines; nothing here searches.
 use Rattle.std.specs.Prelude.{ℕ, zero, suc, ◌+◌, ◌<◌, ◌≤◌, min, Bool, false, ◌||◌, List, [], ◌∷◌, ◌++◌, map, nat_eq}
-use Rattle.basics.specs.Choice.{if◌then◌else◌}
+use Rattle.basics.specs.Choice.{when◌then◌else◌}
 use Rattle.basics.specs.Count.{count}
 use Rattle.raster.specs.Registers.{reg, start_of, row_base_of}
 use Rattle.raster.specs.declared.registers.Registers.{Registers}
@@ -80,7 +80,7 @@ fits_of r latch c = any_of (λ (line : ℕ). nat_eq (cell_latch_of r c line) lat
 -- the elements of a list that pass a test
 unfoldable pub keep : {A : Type 0} → (A → Bool) → List A → List A
 keep f [] = []
-keep f (a ∷ l) = if f a then a ∷ keep f l else keep f l
+keep f (a ∷ l) = when f a then a ∷ keep f l else keep f l
 
 -- of a list of cells: none, just one, or more
 unfoldable pub the_fit : List Cell → Fit

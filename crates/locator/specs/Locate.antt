@@ -1,6 +1,6 @@
 -- The locator's answer (document 01, "The locator" and the table of refusals).
 use Rattle.std.specs.Prelude.{ℕ}
-use Rattle.basics.specs.Choice.{if◌then◌else◌}
+use Rattle.basics.specs.Choice.{when◌then◌else◌}
 use Rattle.raster.specs.declared.registers.Registers.{Registers}
 use Rattle.pen.specs.Pen.{holds_of, newest_of}
 use Rattle.pen.specs.declared.pen.Strike.{Strike}
@@ -37,8 +37,8 @@ named_of Many = Several
 
 -- where a strike was, by the registers: outside the picture, or in the one cell that fits its latch
 unfoldable pub strike_found_of : Registers → Strike → Located
-strike_found_of r strike = if strike.inside then named_of (fit_of r strike.latch) else Outside
+strike_found_of r strike = when strike.inside then named_of (fit_of r strike.latch) else Outside
 
 -- where the newest strike was. Asked in the order of the refusals 5, 6, 7, 8; of the controller nothing but registers and pen is asked.
 unfoldable pub locate_of : Controller → Located
-locate_of c = if holds_of c.pen then strike_found_of c.regs (newest_of c.pen) else Unstruck
+locate_of c = when holds_of c.pen then strike_found_of c.regs (newest_of c.pen) else Unstruck

@@ -1,7 +1,7 @@
 -- A bus cycle (document 01, "The multiplexer", selects, ticks and barred pair; kind 6 in "Records and what comes back").
 use Rattle.std.specs.Prelude.{ℕ, ◌+◌, ◌-◌, ◌*◌, ◌/◌, Bool, ◌&&◌, ◌||◌, List, [], ◌∷◌, nat_le, nat_lt, slice_index}
 use Rattle.basics.specs.Bits.{num}
-use Rattle.basics.specs.Choice.{if◌then◌else◌}
+use Rattle.basics.specs.Choice.{when◌then◌else◌}
 use Rattle.control.specs.declared.bits.Control.{Control}
 use Rattle.control.specs.Names.{r0_of, r1_of, ty_of}
 use Rattle.control.specs.Write.{control_write_of}
@@ -21,10 +21,10 @@ block_selects = 4 ∷ 5 ∷ 6 ∷ 7 ∷ 7 ∷ 7 ∷ 7 ∷ 2 ∷ []
 -- with TY clear only: 1 from $8000, 2 from $A000, 3 from $C000 up to $FEFF.
 unfoldable pub select_of : Control → ℕ → Bool → ℕ
 select_of c a read =
-    if nat_le 0xFF00 a then slice_index block_selects ((a - 0xFF00) / 32)
-    else if is_ram_of c a then (if read then 0 else 7)
-    else if nat_lt a 0xA000 then 1
-    else if nat_lt a 0xC000 then 2
+    when nat_le 0xFF00 a then slice_index block_selects ((a - 0xFF00) / 32)
+    else when is_ram_of c a then (when read then 0 else 7)
+    else when nat_lt a 0xA000 then 1
+    else when nat_lt a 0xC000 then 2
     else 3
 
 -- with R0 alone set, the lower half and the 32 addresses from $FF00 keep the slow rate
@@ -33,7 +33,7 @@ is_slow_of a = nat_lt a 0x8000 || (nat_le 0xFF00 a && nat_lt a 0xFF20)
 
 -- How long a cycle lasts, in ticks of the crystal: 8 with R1 set; with R1 clear 16, but with R0 set 8 where the address is not slow.
 unfoldable pub ticks_of : Control → ℕ → ℕ
-ticks_of c a = if r1_of c then 8 else if r0_of c then (if is_slow_of a then 16 else 8) else 16
+ticks_of c a = when r1_of c then 8 else when r0_of c then (when is_slow_of a then 16 else 8) else 16
 
 -- A pair of settings that the chip bars: TY set together with either rate bit.
 -- Decision: it is a fact of the control bits, so it is told of every cycle, at whatever address.
@@ -42,7 +42,7 @@ is_barred_of c = ty_of c && (r1_of c || r0_of c)
 
 -- the cell of a RAM cycle, and zeros for any other
 unfoldable pub ram_cell_of : Control → ℕ → MemoryCell
-ram_cell_of c a = if is_ram_of c a then cell_of (side_of c) (routed_of c a) else no_cell
+ram_cell_of c a = when is_ram_of c a then cell_of (side_of c) (routed_of c a) else no_cell
 
 -- the flags of a cycle: 1 for RAM, 2 for a barred pair, 4 for a control write
 unfoldable pub flags_of : Control → ℕ → Bool → ℕ

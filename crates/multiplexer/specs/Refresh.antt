@@ -1,6 +1,6 @@
 -- Refresh (document 01, "The multiplexer", its last sentences; kind 8 in "Records and what comes back").
 use Rattle.std.specs.Prelude.{ℕ, ◌+◌, ◌%◌, ◌==◌}
-use Rattle.basics.specs.Choice.{if◌then◌else◌}
+use Rattle.basics.specs.Choice.{when◌then◌else◌}
 use Rattle.control.specs.declared.bits.Control.{Control}
 use Rattle.control.specs.Names.{r1_of}
 use Rattle.multiplexer.specs.Edge.{fall}
@@ -19,6 +19,6 @@ idle_at counter = record { first = 0; count = 0; counter = counter }
 -- nothing.
 unfoldable pub refresh_of : Control → ℕ → ℕ → Refresh
 refresh_of c edge counter =
-    if r1_of c then idle_at counter
-    else if edge == fall then eight_from counter
+    when r1_of c then idle_at counter
+    else when edge == fall then eight_from counter
     else idle_at counter

@@ -1,7 +1,7 @@
 -- Where a character time leads, with the reason as facts: the one case analysis of a line's end. Assumes nothing.
 use Rattle.std.proofs.Common.{◌≡◌, Bool, true, false, eqb, sym, refl, ◌∙◌, true≢false, eqb-true}
 use borrow.Author.Tests.{eqb-false}
-use Rattle.basics.specs.Choice.{if◌then◌else◌}
+use Rattle.basics.specs.Choice.{when◌then◌else◌}
 use Rattle.basics.specs.Width.{counted_of}
 use Rattle.basics.specs.declared.width.Width.TheVariants.{Five}
 use Rattle.raster.specs.Registers.{reg}
@@ -24,12 +24,12 @@ pub data Step (r : Registers) (s : Scan) : Move → Scan → Type 0 where
   at-end : {m : Move} {z : Scan} → s.column ≡ reg r 0 → LineEnd r s m z → Step r s m z
 
 pub line-end : (r : Registers) (s : Scan) → LineEnd r s (line_end_of r s) (moved_of r s (line_end_of r s))
-unfolding if◌then◌else◌ line_end_of moved_of
+unfolding when◌then◌else◌ line_end_of moved_of
 line-end r s = go s.adjusting refl (eqb (counted_of Five s.line 1) (reg r 5)) refl (eqb s.line (reg r 9)) refl (eqb s.row (reg r 4)) refl (eqb (reg r 5) 0) refl
   where
     go : (a : Bool) → s.adjusting ≡ a → (e : Bool) → eqb (counted_of Five s.line 1) (reg r 5) ≡ e
         → (l : Bool) → eqb s.line (reg r 9) ≡ l → (w : Bool) → eqb s.row (reg r 4) ≡ w → (z : Bool) → eqb (reg r 5) 0 ≡ z
-        → (let m : Move = if a then (if e then new_frame else down) else (if l then (if w then (if z then new_frame else to_adjust) else next_row) else down) in
+        → (let m : Move = when a then (when e then new_frame else down) else (when l then (when w then (when z then new_frame else to_adjust) else next_row) else down) in
         LineEnd r s m (moved_of r s m))
     go true a true e l p w q z t = adjust-frame a (eqb-true _ _ e)
     go true a false e l p w q z t = adjust-down a (eqb-false _ _ e)
@@ -39,10 +39,10 @@ line-end r s = go s.adjusting refl (eqb (counted_of Five s.line 1) (reg r 5)) re
     go false a e f true l true w true z = to-frame a (eqb-true _ _ l) (eqb-true _ _ w) (eqb-true _ _ z)
 
 pub step : (r : Registers) (s : Scan) → Step r s (move_of r s) (next_of r s)
-unfolding if◌then◌else◌ next_of move_of moved_of
+unfolding when◌then◌else◌ next_of move_of moved_of
 step r s = go (eqb s.column (reg r 0)) refl
   where
-    go : (b : Bool) → eqb s.column (reg r 0) ≡ b → (let m : Move = if b then line_end_of r s else along in Step r s m (moved_of r s m))
+    go : (b : Bool) → eqb s.column (reg r 0) ≡ b → (let m : Move = when b then line_end_of r s else along in Step r s m (moved_of r s m))
     go true e = at-end (eqb-true _ _ e) (line-end r s)
     go false e = in-line (eqb-false _ _ e)
 

@@ -1,6 +1,6 @@
 -- The end of a line by three outcomes, as the code takes it, in place of the definition's six. Assumes nothing.
 use Rattle.std.proofs.Common.{◌≡◌, Bool, true, false, not, ◌&&◌, eqb, refl, ◌∙◌, eq-eqb, ne_eqb}
-use Rattle.basics.specs.Choice.{if◌then◌else◌}
+use Rattle.basics.specs.Choice.{when◌then◌else◌}
 use Rattle.raster.specs.Registers.{reg}
 use Rattle.raster.specs.Scan.{Move, along, new_frame_of, row_of, down_of, along_of, moved_of, line_end_of, move_of, next_of}
 use Rattle.raster.specs.private.Outcomes.{ends_frame_of}
@@ -11,11 +11,11 @@ use Rattle.raster.proofs.LineEnds.{LineEnd, line-down, row-down, to-adjust, to-f
 module _ (r : Registers) (s : Scan) where
   abbrev by_outcome : Scan
   by_outcome =
-      if ends_frame_of r s (eqb s.line (reg r 9) && eqb s.row (reg r 4) && eqb (reg r 5) 0) then new_frame_of r s
-      else (if not s.adjusting && eqb s.line (reg r 9) then row_of r s (eqb s.row (reg r 4)) else down_of s)
+      when ends_frame_of r s (eqb s.line (reg r 9) && eqb s.row (reg r 4) && eqb (reg r 5) 0) then new_frame_of r s
+      else (when not s.adjusting && eqb s.line (reg r 9) then row_of r s (eqb s.row (reg r 4)) else down_of s)
 
   outcome : {m : Move} {z : Scan} → LineEnd r s m z → by_outcome ≡ z
-  unfolding ends_frame_of if◌then◌else◌
+  unfolding ends_frame_of when◌then◌else◌
   outcome (line-down a l) = rw (a, ne_eqb _ _ l)
   outcome (row-down a l w) = rw (a, eq-eqb _ _ l, ne_eqb _ _ w)
   outcome (to-adjust a l w z) = rw (a, eq-eqb _ _ l, eq-eqb _ _ w, ne_eqb _ _ z)
@@ -26,9 +26,9 @@ module _ (r : Registers) (s : Scan) where
   pub by-outcome : (z : Scan) → z ≡ by_outcome → z ≡ moved_of r s (line_end_of r s)
   by-outcome z e = e ∙ outcome (line-end r s)
 
-  pub by_move : (z : Scan) → z ≡ (if eqb s.column (reg r 0) then moved_of r s (line_end_of r s) else along_of s) → z ≡ next_of r s
-  unfolding if◌then◌else◌ next_of move_of moved_of
+  pub by_move : (z : Scan) → z ≡ (when eqb s.column (reg r 0) then moved_of r s (line_end_of r s) else along_of s) → z ≡ next_of r s
+  unfolding when◌then◌else◌ next_of move_of moved_of
   by_move z e = e ∙ of (eqb s.column (reg r 0)) where
-    of : (t : Bool) → (if t then moved_of r s (line_end_of r s) else along_of s) ≡ moved_of r s (if t then line_end_of r s else along)
+    of : (t : Bool) → (when t then moved_of r s (line_end_of r s) else along_of s) ≡ moved_of r s (when t then line_end_of r s else along)
     of true = refl
     of false = refl

@@ -1,7 +1,7 @@
 -- Where the scan is, and how one character time moves it (document 01, "One character time"). Every counter wraps at its width, and
 -- every end is found by equality: a counter that has passed its end runs on until it wraps.
 use Rattle.std.specs.Prelude.{ℕ, Bool, true, false, ◌==◌, nat_eq}
-use Rattle.basics.specs.Choice.{if◌then◌else◌}
+use Rattle.basics.specs.Choice.{when◌then◌else◌}
 use Rattle.basics.specs.Width.{counted_of}
 use Rattle.basics.specs.declared.width.Width.TheVariants.{Five, Seven, Eight, Fourteen}
 use Rattle.raster.specs.Registers.{reg, start_of}
@@ -20,14 +20,14 @@ pub data Move : Type 0 where
 -- adjust lines (R5 zero) the last line of row R4 ends it.
 unfoldable pub line_end_of : Registers → Scan → Move
 line_end_of r s =
-    if s.adjusting then (if nat_eq (counted_of Five s.line 1) (reg r 5) then new_frame else down)
-    else (if nat_eq s.line (reg r 9) then
-    (if nat_eq s.row (reg r 4) then (if nat_eq (reg r 5) 0 then new_frame else to_adjust) else next_row)
+    when s.adjusting then (when nat_eq (counted_of Five s.line 1) (reg r 5) then new_frame else down)
+    else (when nat_eq s.line (reg r 9) then
+    (when nat_eq s.row (reg r 4) then (when nat_eq (reg r 5) 0 then new_frame else to_adjust) else next_row)
     else down)
 
 -- and anywhere: a line ends at the column that equals R0
 unfoldable pub move_of : Registers → Scan → Move
-move_of r s = if s.column == reg r 0 then line_end_of r s else along
+move_of r s = when s.column == reg r 0 then line_end_of r s else along
 
 -- the top of a frame: its first character, the start address sampled and the base set to it
 abbrev pub top_of : Registers → ℕ → Scan

@@ -5,7 +5,7 @@ use mathlib.Core.Path.{◌≡◌, refl}
 use mathlib.Core.Bool.{Bool, true, false, ◌&&◌}
 use lib.Dec.{eqb, leb}
 use Rattle.basics.specs.Bits.{num, word_of}
-use Rattle.basics.specs.Choice.{if◌then◌else◌}
+use Rattle.basics.specs.Choice.{when◌then◌else◌}
 use Rattle.record.specs.Decode.{looked_up, checked_of, decode_of}
 use Rattle.record.specs.declared.event.Event.{Event}
 use Rattle.record.specs.declared.event.Event.TheVariants.{Write, Read, Clocks, Strike, Reset, Locate}
@@ -15,34 +15,34 @@ use Rattle.record.specs.declared.kinds.Refusal.TheVariants.{Field}
 
 module _ (hi lo value : ℕ) where
   pub write-line : decode_of 1 hi lo value ≡ checked_of (eqb hi 0 && leb lo 1) (Write (eqb lo 1) value)
-  unfolding decode_of looked_up if◌then◌else◌
+  unfolding decode_of looked_up when◌then◌else◌
   write-line = refl
 
   pub clocks-line : decode_of 3 hi lo value ≡ checked_of (eqb value 0) (Clocks (word_of hi lo))
-  unfolding decode_of looked_up if◌then◌else◌
+  unfolding decode_of looked_up when◌then◌else◌
   clocks-line = refl
 
   pub strike-line : decode_of 4 hi lo value ≡ checked_of (eqb hi 0 && eqb lo 0 && eqb value 0) Strike
-  unfolding decode_of looked_up if◌then◌else◌
+  unfolding decode_of looked_up when◌then◌else◌
   strike-line = refl
 
 -- a read has its RS in lo and zero fields else
 pub read-record : (rs : Bool) → decode_of 2 0 (num rs) 0 ≡ Known (Read rs)
-unfolding decode_of looked_up checked_of if◌then◌else◌
+unfolding decode_of looked_up checked_of when◌then◌else◌
 read-record true = refl
 read-record false = refl
 
 -- what holds of the event and of its refusal holds of it checked
 pub checked-either : (P : Decoded → Type 0) (fields : Bool) (e : Event) → P (Known e) → P (Refused Field) → P (checked_of fields e)
-unfolding checked_of if◌then◌else◌
+unfolding checked_of when◌then◌else◌
 checked-either P true e p q = p
 checked-either P false e p q = q
 
 -- the controller's reset, and a locate
 pub reset-record : decode_of 5 0 0 0 ≡ Known (Reset false)
-unfolding decode_of looked_up checked_of if◌then◌else◌
+unfolding decode_of looked_up checked_of when◌then◌else◌
 reset-record = refl
 
 pub locate-record : decode_of 9 0 0 0 ≡ Known Locate
-unfolding decode_of looked_up checked_of if◌then◌else◌
+unfolding decode_of looked_up checked_of when◌then◌else◌
 locate-record = refl

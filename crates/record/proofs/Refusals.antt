@@ -8,7 +8,7 @@ use native.Mathlib.Omega.{arith}
 use lib.Dec.{eqb}
 use lib.ListN.{length}
 use borrow.Author.Tests.{eqb-true, eqb-false}
-use Rattle.basics.specs.Choice.{if◌then◌else◌}
+use Rattle.basics.specs.Choice.{when◌then◌else◌}
 use Rattle.basics.proofs.Tests.{lt-or-ge}
 use Rattle.record.specs.Decode.{Line, table_of, looked_up, allowed_of, checked_of, decode_of, number_of}
 use Rattle.record.specs.Refusals.{UnknownKind, KnownKind, Refusals}
@@ -31,11 +31,11 @@ data Spoken (k : ℕ) (lines : List Line) (kind : ℕ) : Type 0 where
 
 module _ (k : ℕ) (l : Line) (lines : List Line) (kind : ℕ) where
   here : eqb kind k ≡ true → Spoken k (l ∷ lines) kind
-  unfolding looked_up if◌then◌else◌
+  unfolding looked_up when◌then◌else◌
   here e = let q : kind ≡ k = eqb-true kind k e in known (omega arith) (omega arith) l.event (rw e refl)
 
   further : eqb kind k ≡ false → Spoken (suc k) lines kind → Spoken k (l ∷ lines) kind
-  unfolding looked_up if◌then◌else◌
+  unfolding looked_up when◌then◌else◌
   further e (known h g event d) = known (omega arith) (omega arith) event (rw e d)
   further e (none out d f) =
       let not : kind ≡ k → ⊥ = eqb-false kind k e in
@@ -55,7 +55,7 @@ abbrev Numbers : ℕ → ℕ → Bool → Type 0
 Numbers n kind fields = ((n ≡ 0) ↔ (fields ≡ true)) × ((n ≡ 1) ↔ UnknownKind kind) × ((n ≡ 2) ↔ (KnownKind kind × (fields ≡ false)))
 
 by-fields : (fields : Bool) (kind : ℕ) (e : Event) → KnownKind kind → Numbers (number_of (checked_of fields e)) kind fields
-unfolding checked_of if◌then◌else◌
+unfolding checked_of when◌then◌else◌
 by-fields true kind e h = (
   (λ _. refl, λ _. refl),
   (λ p. absurd (omega arith), λ u. absurd (⊎_elim (λ z. omega arith) (λ z. omega arith) u)),

@@ -1,7 +1,7 @@
 -- What four bytes mean: the table of kinds of document 01, "Records and what comes back", a line for each kind.
 use Rattle.std.specs.Prelude.{ℕ, suc, Bool, false, ◌&&◌, List, [], ◌∷◌, eqb, leb}
 use Rattle.basics.specs.Bits.{word_of}
-use Rattle.basics.specs.Choice.{if◌then◌else◌}
+use Rattle.basics.specs.Choice.{when◌then◌else◌}
 use Rattle.record.specs.declared.event.Event.{Event}
 use Rattle.record.specs.declared.event.Event.TheVariants.{Write, Read, Clocks, Strike, Reset, Cycle, Fetches, Levels, Locate}
 use Rattle.record.specs.declared.kinds.Refusal.TheVariants.{Kind, Field}
@@ -34,7 +34,7 @@ table_of hi lo value =
 -- what the lines from kind k on say of a kind, or what is said of one that they lack
 unfoldable pub looked_up : {A : Type 0} → (Line → A) → A → ℕ → List Line → ℕ → A
 looked_up says lacks k [] kind = lacks
-looked_up says lacks k (l ∷ lines) kind = if eqb kind k then says l else looked_up says lacks (suc k) lines kind
+looked_up says lacks k (l ∷ lines) kind = when eqb kind k then says l else looked_up says lacks (suc k) lines kind
 
 -- whether a record's fields are allowed. A kind that the table lacks allows none.
 unfoldable pub allowed_of : ℕ → ℕ → ℕ → ℕ → Bool
@@ -42,7 +42,7 @@ allowed_of kind hi lo value = looked_up (λ l. l.fields) false 1 (table_of hi lo
 
 -- an event, if its fields are allowed
 unfoldable pub checked_of : Bool → Event → Decoded
-checked_of fields event = if fields then Known event else Refused Field
+checked_of fields event = when fields then Known event else Refused Field
 
 -- a record: its kind is looked at first, then its fields
 unfoldable pub decode_of : ℕ → ℕ → ℕ → ℕ → Decoded

@@ -9,7 +9,7 @@ use native.Mathlib.Omega.{arith}
 use native.Mathlib.Nat.{mod-lt}
 use lib.Dec.{eqb, lit<}
 use Rattle.basics.specs.Bits.{num}
-use Rattle.basics.specs.Choice.{if◌then◌else◌}
+use Rattle.basics.specs.Choice.{when◌then◌else◌}
 use Rattle.basics.proofs.Cases.{if-both}
 use Rattle.basics.proofs.Tests.{lt-or-ge}
 use Rattle.control.specs.Names.{r1_of}
@@ -32,12 +32,12 @@ record Falls (e : Event) (m : Multiplexer) : Type 0 where
   moved : (after e m).refresh ≡ (m.refresh + 8) % 128
   eight : refreshes e m ≡ rows_from m.refresh 8
 
-refresh-at : (c : Control) (edge counter : ℕ) (t : Bool) → r1_of c ≡ false → eqb edge fall ≡ t → refresh_of c edge counter ≡ (if t then eight_from counter else idle_at counter)
-unfolding refresh_of if◌then◌else◌
+refresh-at : (c : Control) (edge counter : ℕ) (t : Bool) → r1_of c ≡ false → eqb edge fall ≡ t → refresh_of c edge counter ≡ (when t then eight_from counter else idle_at counter)
+unfolding refresh_of when◌then◌else◌
 refresh-at c edge counter t r e = rw (r, e)
 
 level : (hs da0 t : Bool) (m : Multiplexer) → r1_of m.control ≡ false → eqb (edge_of m.hs hs da0) fall ≡ t → Rests (levels hs da0) m ⊎ Falls (levels hs da0) m
-unfolding falls after refreshes levels_of if◌then◌else◌
+unfolding falls after refreshes levels_of when◌then◌else◌
 level hs da0 true m r e =
     let q : refresh_of m.control (edge_of m.hs hs da0) m.refresh ≡ eight_from m.refresh = refresh-at _ _ _ true r e in
     inr (record { one = ap num e; moved = ap (λ (f : Refresh). f.counter) q; eight = ap (λ (f : Refresh). rows_from f.first f.count) q })

@@ -7,7 +7,7 @@ use native.Mathlib.Nat.{zero-add, add_assoc}
 use native.Mathlib.Omega.{arith}
 use lib.ListN.{length}
 use borrow.Author.Tests.{lt-ltb, le-ltb}
-use Rattle.basics.specs.Choice.{if◌then◌else◌}
+use Rattle.basics.specs.Choice.{when◌then◌else◌}
 use Rattle.basics.specs.Lay.{laid_at}
 use Rattle.answer.specs.declared.Answer.{Answer}
 use Rattle.bench.specs.Step.{step_of}
@@ -49,9 +49,9 @@ run_short (w ∷ x ∷ y ∷ z ∷ r) room b h g = absurd (omega arith)
 -- a record that has no room, and one that has
 module _ (kind hi lo value : ℕ) (rest : List ℕ) (room : ℕ) (b : Bench) where
   pub run-full : room < 8 → run_of (kind ∷ hi ∷ lo ∷ value ∷ rest) room b ≡ stop b 4
-  unfolding run_of if◌then◌else◌
+  unfolding run_of when◌then◌else◌
   run-full h = rw (lt-ltb room 8 h)
 
   pub run_more : 8 ≤ room → run_of (kind ∷ hi ∷ lo ∷ value ∷ rest) room b ≡ after (step_of b kind hi lo value) (run_of rest (room - 8))
-  unfolding run_of if◌then◌else◌
+  unfolding run_of when◌then◌else◌
   run_more h = rw (le-ltb room 8 h)

@@ -1,6 +1,6 @@
 -- What a replay gives (document 01, "Records and what comes back": the table of refusals and the order at each record).
 use Rattle.std.specs.Prelude.{ℕ, ◌+◌, ◌-◌, List, [], ◌∷◌, ◌++◌, ltb, length}
-use Rattle.basics.specs.Choice.{if◌then◌else◌}
+use Rattle.basics.specs.Choice.{when◌then◌else◌}
 use Rattle.basics.specs.Lay.{laid_at}
 use Rattle.answer.specs.Answer.{bytes_of}
 use Rattle.answer.specs.declared.Answer.{Answer}
@@ -39,7 +39,7 @@ run_of (x ∷ []) room b = stop b 3
 run_of (x ∷ y ∷ []) room b = stop b 3
 run_of (x ∷ y ∷ z ∷ []) room b = stop b 3
 run_of (kind ∷ hi ∷ lo ∷ value ∷ rest) room b =
-    if ltb room 8 then stop b 4 else after (step_of b kind hi lo value) (run_of rest (room - 8))
+    when ltb room 8 then stop b 4 else after (step_of b kind hi lo value) (run_of rest (room - 8))
 
 -- the answers' bytes, one answer after the other
 unfoldable pub written_of : List Answer → List ℕ

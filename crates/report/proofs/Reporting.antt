@@ -7,7 +7,7 @@ use native.Mathlib.Omega.{arith}
 use lib.Dec.{eqb, ltb, leb}
 use lib.ListN.{length, get_or, drop, length-append, get_or-append}
 use borrow.Author.Tests.{lt-ltb, le-ltb, ltb-false, leb-true}
-use Rattle.basics.specs.Choice.{if◌then◌else◌}
+use Rattle.basics.specs.Choice.{when◌then◌else◌}
 use Rattle.basics.specs.Count.{count}
 use Rattle.basics.specs.Lay.{laid_at}
 use Rattle.basics.proofs.Counting.{each_last, length-each, each_at}
@@ -57,19 +57,19 @@ module _ (given out₀ : List ℕ) where
 
   -- the three ways in which the call ends
   pub ended-10 : are_settings (length given) ≡ false → (10 ≡ refusal_of given out₀) × ((out₀ ≡ reported_of given out₀) × (given ≡ given))
-  unfolding refusal_of reported_of if◌then◌else◌
+  unfolding refusal_of reported_of when◌then◌else◌
   ended-10 w = (rw w, (rw w, refl))
 
   pub ended-11 : are_settings (length given) ≡ true → length out₀ < needed given
       → (11 ≡ refusal_of given out₀) × ((out₀ ≡ reported_of given out₀) × (given ≡ given))
-  unfolding refusal_of reported_of if◌then◌else◌
+  unfolding refusal_of reported_of when◌then◌else◌
   ended-11 w h = let q : ltb (length out₀) (needed given) ≡ true = lt-ltb _ _ h in (rw (w, q), (rw (w, q), refl))
 
   pub ended-0 : (mid out : List ℕ) (total : Tally) → are_settings (length given) ≡ true → needed given ≤ length out₀
       → mid ≡ laid_at out₀ 0 (places_of (tallies_of given (settings_in given))) → total ≡ totals_of (tallies_of given (settings_in given))
       → out ≡ laid_at mid (row * settings_in given) (row_of total)
       → (0 ≡ refusal_of given out₀) × ((out ≡ reported_of given out₀) × (given ≡ given))
-  unfolding refusal_of reported_of report_of if◌then◌else◌
+  unfolding refusal_of reported_of report_of when◌then◌else◌
   ended-0 mid out total w h em et eo =
       let q : ltb (length out₀) (needed given) ≡ false = le-ltb _ _ h in
       let n = settings_in given in
@@ -93,11 +93,11 @@ pub record Done (given out : List ℕ) : Type 0 where
   pub laid : reported_of given out ≡ laid_at out 0 (report_of given)
 
 pub done : (given out : List ℕ) → refusal_of given out ≡ 0 → Done given out
-unfolding refusal_of reported_of if◌then◌else◌
+unfolding refusal_of reported_of when◌then◌else◌
 done given out = go (are_settings (length given)) refl (ltb (length out) (needed given)) refl
   where
     go : (b : Bool) → are_settings (length given) ≡ b → (f : Bool) → ltb (length out) (needed given) ≡ f
-        → ◌≡◌ {A = ℕ} (if b then (if f then 11 else 0) else 10) 0
+        → ◌≡◌ {A = ℕ} (when b then (when f then 11 else 0) else 10) 0
         → Done given out
     go true e false f z = record { settings = e; room = ltb-false _ _ f; laid = rw (e, f) }
     go true e true f z = absurd (omega arith)
@@ -105,7 +105,7 @@ done given out = go (are_settings (length given)) refl (ltb (length out) (needed
 
 -- and any other where there are places enough for every report: they are not
 pub not-settings : (given out : List ℕ) → row * (most + 1) ≤ length out → (refusal_of given out ≡ 0 → ⊥) → are_settings (length given) ≡ false
-unfolding refusal_of if◌then◌else◌
+unfolding refusal_of when◌then◌else◌
 not-settings given out h n = go (are_settings (length given)) refl
   where
     go : (b : Bool) → are_settings (length given) ≡ b → are_settings (length given) ≡ false

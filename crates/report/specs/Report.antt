@@ -1,6 +1,6 @@
 -- The report on a batch of settings (document 02, W1): a row of seven places for each, then a row of totals, and the two refusals.
 use Rattle.std.specs.Prelude.{ℕ, ◌+◌, ◌*◌, ◌/◌, ◌%◌, Bool, ◌&&◌, List, [], ◌∷◌, ◌++◌, map, eqb, ltb, leb, length, take, drop}
-use Rattle.basics.specs.Choice.{if◌then◌else◌}
+use Rattle.basics.specs.Choice.{when◌then◌else◌}
 use Rattle.basics.specs.Count.{count}
 use Rattle.basics.specs.Lay.{laid_at}
 use Rattle.setting.specs.Setting.{bytes, started_of}
@@ -69,9 +69,9 @@ are_settings n = ltb 0 n && leb n (most * bytes) && eqb (n % bytes) 0
 -- How the call ends. What the bytes are is looked at first: 10 where they are not such settings; then 11 where there are too few places;
 -- else 0, and the report is given.
 unfoldable pub refusal_of : List ℕ → List ℕ → ℕ
-refusal_of given out = if are_settings (length given) then (if ltb (length out) (needed given) then 11 else 0) else 10
+refusal_of given out = when are_settings (length given) then (when ltb (length out) (needed given) then 11 else 0) else 10
 
 -- The places afterwards: the report from the first on, and after it as they were. A refusal leaves every one as it was.
 unfoldable pub reported_of : List ℕ → List ℕ → List ℕ
 reported_of given out =
-    if are_settings (length given) then (if ltb (length out) (needed given) then out else laid_at out 0 (report_of given)) else out
+    when are_settings (length given) then (when ltb (length out) (needed given) then out else laid_at out 0 (report_of given)) else out

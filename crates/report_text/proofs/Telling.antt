@@ -8,7 +8,7 @@ use native.Mathlib.Omega.{arith}
 use lib.Dec.{eqb, ltb}
 use lib.ListN.{length, get_or, take, drop, length-append, length-take, length-drop}
 use lib.Seq.{take-append-le, drop-append-le}
-use Rattle.basics.specs.Choice.{if◌then◌else◌}
+use Rattle.basics.specs.Choice.{when◌then◌else◌}
 use Rattle.basics.specs.Count.{count}
 use Rattle.basics.specs.Lay.{Writes}
 use Rattle.basics.proofs.Cases.{if-both}
@@ -40,11 +40,11 @@ module _ (f : ℕ → List ℕ) where
 -- a number and what stands behind it
 module _ {t u s : List ℕ} {p q r : ℕ} (n : ℕ) (last : Bool) (a : Writes t u p q (decimal_of n)) where
   pub ends-line : last ≡ true → Writes u s q r newline → Writes t s p r (number_of n last)
-  unfolding number_of if◌then◌else◌
+  unfolding number_of when◌then◌else◌
   ends-line e b = rw e (then-writes a b)
 
   pub goes_on : last ≡ false → Writes u s q r space → Writes t s p r (number_of n last)
-  unfolding number_of if◌then◌else◌
+  unfolding number_of when◌then◌else◌
   goes_on e b = rw e (then-writes a b)
 
 -- rows, the word and the totals
@@ -62,7 +62,7 @@ joined-most f m h (i ∷ l) = simp length-append (omega (arith, suc-mul (length 
 number-most : (n : ℕ) (last : Bool) → length (number_of n last) ≤ most_digits + 1
 unfolding number_of
 number-most n last =
-    let end : length (if last then newline else space) ≤ 1 = if-both (λ (w : List ℕ). length w ≤ 1) last newline space (λ _. omega arith) (λ _. omega arith) in
+    let end : length (when last then newline else space) ≤ 1 = if-both (λ (w : List ℕ). length w ≤ 1) last newline space (λ _. omega arith) (λ _. omega arith) in
     simp length-append (omega (arith, length-decimal most_digits n))
 
 line-most : (numbers : List ℕ) → length (line_of numbers) ≤ length numbers * (most_digits + 1)
@@ -103,7 +103,7 @@ table_same w z n h =
 -- so the places that a report is laid at the front of make its text
 pub text-of-places : (given out places : List ℕ) → refusal_of given out ≡ 0 → places ≡ reported_of given out
     → table_of places (settings_in given) ≡ report_text_of given
-unfolding report_text_of if◌then◌else◌
+unfolding report_text_of when◌then◌else◌
 text-of-places given out places z e =
     let d = done given out z in
     rw d.settings
@@ -111,5 +111,5 @@ text-of-places given out places z e =
     ∙ table_same (report_of given) (drop (length (report_of given)) out) (settings_in given) (omega (arith, length-report given)))
 
 pub text-of-refusal : (given out : List ℕ) → row * (most + 1) ≤ length out → (refusal_of given out ≡ 0 → ⊥) → refused_text ≡ report_text_of given
-unfolding report_text_of if◌then◌else◌
+unfolding report_text_of when◌then◌else◌
 text-of-refusal given out h n = rw (not-settings given out h n)

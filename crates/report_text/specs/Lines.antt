@@ -1,6 +1,6 @@
 -- Rows of numbers as lines (document 02, W1: the numbers of a report, as its program tells them).
 use Rattle.std.specs.Prelude.{ℕ, ◌+◌, ◌*◌, Bool, List, [], ◌∷◌, ◌++◌, map, eqb, length, get_or, take, drop}
-use Rattle.basics.specs.Choice.{if◌then◌else◌}
+use Rattle.basics.specs.Choice.{when◌then◌else◌}
 use Rattle.basics.specs.Count.{count}
 use Rattle.decimal.specs.Decimal.{decimal_of}
 use Rattle.text.specs.Lines.{newline}
@@ -17,7 +17,7 @@ joined (w ∷ l) = w ++ joined l
 
 -- a number in decimal, and after it one space, or the end of the line where it is the last
 unfoldable pub number_of : ℕ → Bool → List ℕ
-number_of n last = decimal_of n ++ (if last then newline else space)
+number_of n last = decimal_of n ++ (when last then newline else space)
 
 -- numbers on a line
 unfoldable pub line_of : List ℕ → List ℕ

@@ -1,7 +1,7 @@
 -- What the program `counts` prints (document 02, W1). Decision: the request has numbers and refusals and names no program; one that prints a
 -- report in decimal, and a refusal by its number, is what a reader of such numbers can use.
 use Rattle.std.specs.Prelude.{ℕ, ◌+◌, ◌*◌, List, [], ◌∷◌, ◌++◌, length}
-use Rattle.basics.specs.Choice.{if◌then◌else◌}
+use Rattle.basics.specs.Choice.{when◌then◌else◌}
 use Rattle.decimal.specs.Decimal.{most_digits}
 use Rattle.report.specs.Report.{most, row, settings_in, report_of, are_settings}
 use Rattle.report_text.specs.Lines.{row_at, line_of, lines_of}
@@ -20,7 +20,7 @@ table_of places n = lines_of places n ++ total_word ++ line_of (row_at places n)
 
 -- the text for an input
 unfoldable pub report_text_of : List ℕ → List ℕ
-report_text_of given = if are_settings (length given) then table_of (report_of given) (settings_in given) else refused_text
+report_text_of given = when are_settings (length given) then table_of (report_of given) (settings_in given) else refused_text
 
 -- no text is longer: each number of the longest report as long as a number can be, with the byte after it, and the word
 abbrev pub text_length : ℕ

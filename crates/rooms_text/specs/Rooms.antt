@@ -2,7 +2,7 @@
 -- comes back") is seen here. Decision: the form of the input and of the text is the project's own.
 use Rattle.std.specs.Prelude.{ℕ, ◌+◌, List, [], ◌∷◌, ◌++◌, ltb, length, get_or, drop, replicate}
 use Rattle.basics.specs.Bits.{word_of, high_of, low_of}
-use Rattle.basics.specs.Choice.{if◌then◌else◌}
+use Rattle.basics.specs.Choice.{when◌then◌else◌}
 use Rattle.basics.specs.Lay.{laid_at}
 use Rattle.answer.specs.declared.Answer.{Answer}
 use Rattle.replay.specs.Run.{Run, written_of}
@@ -12,7 +12,7 @@ use Rattle.text.specs.Speech.{too_long}
 
 -- the room that two bytes ask for; more than all answers need counts as that
 unfoldable pub room_of : ℕ → ℕ → ℕ
-room_of hi lo = if ltb most_output (word_of hi lo) then most_output else word_of hi lo
+room_of hi lo = when ltb most_output (word_of hi lo) then most_output else word_of hi lo
 
 -- what a replay, or a call on a serial line, returns besides the chips, as eight bytes: the ending number, then bytes taken and answers
 -- written by two bytes each
@@ -44,6 +44,6 @@ head_bytes = 2
 -- The room's bytes and then the batch. All bytes of the output are $A5 before the replay, so that what it leaves alone shows.
 unfoldable pub room_text_of : List ℕ → List ℕ
 room_text_of input =
-    if ltb (length input) head_bytes then no_room
-    else if ltb (head_bytes + most_bytes) (length input) then too_long
+    when ltb (length input) head_bytes then no_room
+    else when ltb (head_bytes + most_bytes) (length input) then too_long
     else shown_of (drop head_bytes input) (replicate (room_of (get_or input 0 0) (get_or input 1 0)) 0xA5)

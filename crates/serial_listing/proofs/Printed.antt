@@ -7,7 +7,7 @@ use mathlib.Core.Path.{◌≡◌, refl, sym, ap, ap₂, ◌∙◌}
 use native.Mathlib.Omega.{arith}
 use lib.ListN.{length, length-append}
 use borrow.Author.Tests.{le-ltb}
-use Rattle.basics.specs.Choice.{if◌then◌else◌}
+use Rattle.basics.specs.Choice.{when◌then◌else◌}
 use Rattle.answer.specs.declared.Answer.{Answer}
 use Rattle.answer_lines.specs.Lines.{answer_lines_of}
 use Rattle.answer_lines.proofs.Lined.{lines-append}
@@ -66,7 +66,7 @@ module _ (cuts : List (List ℕ)) (read : WithinOneRead cuts) (room : ℕ) (enou
   all = ap₂ (λ (x y : List ℕ). x ++ y) lines (last_end (last_of fresh_line (as_cuts cuts)) (fresh_run_of (input_of cuts) room).ending same.number_same small)
 
 is-listing : (cuts : List (List ℕ)) → WithinOneRead cuts → length (input_of cuts) ≤ most_bytes → printed_of cuts ≡ listing_of (input_of cuts)
-unfolding listing_of batch_listing_of if◌then◌else◌
+unfolding listing_of batch_listing_of when◌then◌else◌
 is-listing cuts read h = rw (le-ltb most_bytes (length (input_of cuts)) h) (all cuts read most_output (omega arith))
 
 pub prints : PrintsTheListing

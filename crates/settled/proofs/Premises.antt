@@ -5,7 +5,7 @@ use mathlib.Core.Bool.{true}
 use mathlib.Core.List.{[]}
 use native.Mathlib.Omega.{arith}
 use lib.Dec.{lit<}
-use Rattle.basics.specs.Choice.{if◌then◌else◌}
+use Rattle.basics.specs.Choice.{when◌then◌else◌}
 use Rattle.basics.specs.Count.{count}
 use Rattle.basics.specs.Iterate.{iterate}
 use Rattle.raster.specs.Scan.{line_end_of, move_of, moved_of, next_of}
@@ -26,11 +26,11 @@ use Rattle.settled.specs.Premises.{A, waited, Premises}
 
 -- case d is answered with a cell
 d-number : refusal_of (answer_to A (waited 1) []) ≡ 0
-unfolding if◌then◌else◌ iterate line_end_of move_of moved_of next_of picture_of address_of ma_of latch_of arrived_of fresh_of reset_of write_of step_of clock_of strike_of addressed_of stored_of written_of after_call after_calls after_wait after_act after_acts count cells_from cell_latch_of any_of fits_of keep the_fit fit_of named_of strike_found_of locate_of no_pen struck_of holds_of newest_of cases.written_of
+unfolding when◌then◌else◌ iterate line_end_of move_of moved_of next_of picture_of address_of ma_of latch_of arrived_of fresh_of reset_of write_of step_of clock_of strike_of addressed_of stored_of written_of after_call after_calls after_wait after_act after_acts count cells_from cell_latch_of any_of fits_of keep the_fit fit_of named_of strike_found_of locate_of no_pen struck_of holds_of newest_of cases.written_of
 d-number = refl
 
 d-inside : picture_of A.regs (struck_at A (waited 1)) ≡ true
-unfolding if◌then◌else◌ iterate line_end_of move_of moved_of next_of picture_of arrived_of fresh_of reset_of write_of step_of clock_of addressed_of stored_of written_of after_call after_calls after_wait after_act after_acts cases.written_of
+unfolding when◌then◌else◌ iterate line_end_of move_of moved_of next_of picture_of arrived_of fresh_of reset_of write_of step_of clock_of addressed_of stored_of written_of after_call after_calls after_wait after_act after_acts cases.written_of
 d-inside = refl
 
 -- so it has no rival: with one, demand 3 would have it refused with 8
@@ -49,7 +49,7 @@ unwrapped : (a x : ℕ) → a ≤ 1 → x < 2 → ((0 + a * 2) % 16384 + x) % 16
 unwrapped a x p q = omega arith
 
 one_each : OneCellEach A.regs
-unfolding if◌then◌else◌ address_of ma_of arrived_of fresh_of write_of addressed_of stored_of written_of after_call after_calls cell_address_of cases.written_of
+unfolding when◌then◌else◌ address_of ma_of arrived_of fresh_of write_of addressed_of stored_of written_of after_call after_calls cell_address_of cases.written_of
 one_each c d i j e =
     let q =
     told-apart c.row d.row c.column d.column i.column< j.column<
@@ -57,7 +57,7 @@ one_each c d i j e =
     ap₂ cell_at q.0 q.1
 
 pub premises : Premises
-unfolding if◌then◌else◌ iterate line_end_of move_of moved_of next_of picture_of address_of ma_of latch_of arrived_of fresh_of reset_of write_of step_of clock_of strike_of addressed_of stored_of written_of emptied_of unread_of struck_of no_pen after_read_of register_read_of read_of after_call after_calls after_wait after_act after_acts count cell_latch_of any_of fits_of cases.written_of
+unfolding when◌then◌else◌ iterate line_end_of move_of moved_of next_of picture_of address_of ma_of latch_of arrived_of fresh_of reset_of write_of step_of clock_of strike_of addressed_of stored_of written_of emptied_of unread_of struck_of no_pen after_read_of register_read_of read_of after_call after_calls after_wait after_act after_acts count cell_latch_of any_of fits_of cases.written_of
 premises = record {
   inside = d-inside;
   alone = d-alone;

@@ -3,7 +3,7 @@ use Prim.Native.Nat.{ℕ}
 use mathlib.Core.Path.{◌≡◌, refl}
 use mathlib.Core.List.{[], map}
 use lib.ListN.{get_or}
-use Rattle.basics.specs.Choice.{if◌then◌else◌}
+use Rattle.basics.specs.Choice.{when◌then◌else◌}
 use Rattle.basics.specs.Count.{count}
 use Rattle.basics.specs.Iterate.{iterate}
 use Rattle.basics.proofs.Alike.{◌then◌}
@@ -28,7 +28,7 @@ abbrev Row : ℕ → Type 0
 Row k = seen_of (get_or cases k []) ≡ get_or settled k []
 
 shown : map seen_of cases ≡ settled
-unfolding if◌then◌else◌ iterate line_end_of move_of moved_of next_of hsync_of vsync_starts_of vsync_width_of vsync_of arrive_of picture_of address_of ma_of latch_of blink_of cursor_line_of cursor_of facts_of arrived_of fresh_of reset_of write_of step_of clock_of strike_of addressed_of stored_of written_of pin_of outputs_of after_call after_calls count cells_from cell_latch_of any_of fits_of keep the_fit fit_of named_of strike_found_of locate_of no_pen struck_of holds_of newest_of cases.written_of reached_of looked_of seen_of
+unfolding when◌then◌else◌ iterate line_end_of move_of moved_of next_of hsync_of vsync_starts_of vsync_width_of vsync_of arrive_of picture_of address_of ma_of latch_of blink_of cursor_line_of cursor_of facts_of arrived_of fresh_of reset_of write_of step_of clock_of strike_of addressed_of stored_of written_of pin_of outputs_of after_call after_calls count cells_from cell_latch_of any_of fits_of keep the_fit fit_of named_of strike_found_of locate_of no_pen struck_of holds_of newest_of cases.written_of reached_of looked_of seen_of
 shown = a then b then c then d then e then f then g then h then i then j then refl
   where
     a : Row 0

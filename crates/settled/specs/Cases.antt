@@ -1,7 +1,7 @@
 -- The settled cases as one table: registers written, a reset, clocks, a strike or none, and what is seen then. Cases a to j are those of
 -- document 01, "Settled cases", with the latch of e as request W5 has it; k to z are of that request.
 use Rattle.std.specs.Prelude.{ℕ, ◌≡◌, List, [], ◌∷◌, ◌++◌, map, true, false, eqb, get_or}
-use Rattle.basics.specs.Choice.{if◌then◌else◌}
+use Rattle.basics.specs.Choice.{when◌then◌else◌}
 use Rattle.basics.specs.Bits.{num}
 use Rattle.controller.specs.Chip.{fresh_of, reset_of, clock_of, strike_of}
 use Rattle.pen.specs.Pen.{newest_of}
@@ -36,7 +36,7 @@ set_of k = reset_of (written_of k)
 
 -- and comes to this controller, by its clocks and its strike
 unfoldable pub reached_of : List ℕ → Controller → Controller
-reached_of k c = if eqb (at k 10) 1 then strike_of (clock_of (at k 9) c) else clock_of (at k 9) c
+reached_of k c = when eqb (at k 10) 1 then strike_of (clock_of (at k 9) c) else clock_of (at k 9) c
 
 -- what is looked at: the picture fact, adjusting, MA, the latch, and the locator's refusal, row and column
 unfoldable pub looked_of : Controller → List ℕ

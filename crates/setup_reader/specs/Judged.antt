@@ -1,6 +1,6 @@
 -- What the reader asks of all entries of a file, one question after the other (document 02, W6).
 use Rattle.std.specs.Prelude.{ℕ, ◌+◌, Bool, true, ◌&&◌, List, [], ◌∷◌, eqb, leb, ltb, length, take, drop}
-use Rattle.basics.specs.Choice.{if◌then◌else◌}
+use Rattle.basics.specs.Choice.{when◌then◌else◌}
 use Rattle.setup_file.specs.Setup.{kind_of, register_bytes, control_bytes, most_batch}
 use Rattle.setup_file.specs.declared.kind.Kind.TheVariants.{Registers, Control, Batch}
 use Rattle.setup_reader.specs.declared.entries.Entry.{Entry}
@@ -17,8 +17,8 @@ rising_of last (e ∷ es) = follows_of last e.kind && rising_of e.kind es
 -- the lengths that a kind allows: just one of registers and of control bits, any up to the most of a batch
 unfoldable pub length_fits : ℕ → ℕ → Bool
 length_fits kind size =
-    if eqb kind (kind_of Registers) then eqb size register_bytes
-    else if eqb kind (kind_of Control) then eqb size control_bytes
+    when eqb kind (kind_of Registers) then eqb size register_bytes
+    else when eqb kind (kind_of Control) then eqb size control_bytes
     else leb size most_batch
 
 -- an entry whose body begins at a place, and whose length is its kind's own

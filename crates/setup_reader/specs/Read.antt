@@ -2,7 +2,7 @@
 use Rattle.std.specs.Prelude.{ℕ, ◌+◌, min, Bool, List, [], ◌∷◌, eqb, length, get_or, take, drop}
 use Rattle.std.proofs.Math.Option.{Option, none, some}
 use Rattle.basics.specs.Bits.{word_of}
-use Rattle.basics.specs.Choice.{if◌then◌else◌}
+use Rattle.basics.specs.Choice.{when◌then◌else◌}
 use Rattle.setting.specs.Setting.{clean_of}
 use Rattle.setup_file.specs.Setup.{Setup, kind_of}
 use Rattle.setup_file.specs.File.{contents_length}
@@ -22,7 +22,7 @@ use Rattle.setup_reader.specs.Judged.{rising_of, placed_of}
 -- the place that the first entry of a kind tells of
 unfoldable pub place_in : ℕ → List Entry → Place
 place_in kind [] = Absent
-place_in kind (e ∷ es) = if eqb e.kind kind then At e.offset e.size else place_in kind es
+place_in kind (e ∷ es) = when eqb e.kind kind then At e.offset e.size else place_in kind es
 
 -- the places of all parts
 unfoldable pub places_in : List Entry → Places
@@ -45,15 +45,15 @@ clean_in file es = clean_of (shown_of file (place_in (kind_of Registers) es))
 -- a file of n entries: the questions in their order, each of all entries before the next is asked
 unfoldable pub judged_of : List ℕ → ℕ → Opened
 judged_of file n =
-    if rising_of 0 (entries_at file 0 n) then (
-    if placed_of (contents_length n) (entries_at file 0 n) (length file) then (
-    if clean_in file (entries_at file 0 n) then opened.Setup (places_in (entries_at file 0 n)) else opened.Refused why.Bits
+    when rising_of 0 (entries_at file 0 n) then (
+    when placed_of (contents_length n) (entries_at file 0 n) (length file) then (
+    when clean_in file (entries_at file 0 n) then opened.Setup (places_in (entries_at file 0 n)) else opened.Refused why.Bits
     ) else opened.Refused why.Places
     ) else opened.Refused why.Kinds
 
 -- what a file is read as
 unfoldable pub opened_of : List ℕ → Opened
-opened_of file = if whole_of file then judged_of file (told_of file) else opened.Refused why.Contents
+opened_of file = when whole_of file then judged_of file (told_of file) else opened.Refused why.Contents
 
 -- the place of one part
 abbrev pub place_for : Places → Kind → Place

@@ -10,7 +10,7 @@ use lib.ListN.{length, get_or, take, drop, length-append}
 use lib.Seq.{get_or-drop, drop-drop, take_at, drop_at}
 use borrow.Author.Tests.{eq-eqb}
 use Rattle.basics.specs.Bits.{word_of, high_of, low_of}
-use Rattle.basics.specs.Choice.{if◌then◌else◌}
+use Rattle.basics.specs.Choice.{when◌then◌else◌}
 use Rattle.setup_file.specs.File.{Piece, entry_bytes, entries_from, bodies_of}
 use Rattle.setup_reader.specs.declared.entries.Entry.{Entry}
 use Rattle.setup_reader.specs.declared.places.Place.{Place}
@@ -80,12 +80,12 @@ placed-made at (p ∷ ps) long fit e =
 -- the body of the first piece of a kind
 unfoldable pub body_in : ℕ → List Piece → Option (List ℕ)
 body_in kind [] = none
-body_in kind (p ∷ ps) = if eqb p.kind kind then some p.body else body_in kind ps
+body_in kind (p ∷ ps) = when eqb p.kind kind then some p.body else body_in kind ps
 
 -- of two places the one that a test chooses has the body that the test chooses
 chosen : (file : List ℕ) (t : Bool) (x y : Place) (b d : Option (List ℕ)) → body_at file x ≡ b → body_at file y ≡ d
-    → body_at file (if t then x else y) ≡ if t then b else d
-unfolding if◌then◌else◌
+    → body_at file (when t then x else y) ≡ when t then b else d
+unfolding when◌then◌else◌
 chosen file true x y b d p q = p
 chosen file false x y b d p q = q
 

@@ -5,7 +5,7 @@ use mathlib.Core.Path.{◌≡◌, refl}
 use native.Mathlib.Omega.{arith}
 use lib.Dec.{leb, ltb}
 use borrow.Author.Tests.{leb-true, ltb-true, lt-ltb, le-leb}
-use Rattle.basics.specs.Choice.{if◌then◌else◌}
+use Rattle.basics.specs.Choice.{when◌then◌else◌}
 use Rattle.setup_file.specs.Setup.{most_batch}
 use Rattle.setup_file.specs.declared.refusal.Refusal.{Refusal}
 use Rattle.setup_writer.specs.declared.answer.Written.{Written}
@@ -13,8 +13,8 @@ use Rattle.setup_writer.specs.declared.answer.Written.TheVariants.{Bytes, Refuse
 use Rattle.setup_writer.specs.Write.{judged_of}
 
 -- a question that a setup which is written has passed
-passed : (t : Bool) (w : Written) (r : Refusal) (n : ℕ) → (if t then w else Refused r) ≡ Bytes n → (t ≡ true) × (w ≡ Bytes n)
-unfolding if◌then◌else◌
+passed : (t : Bool) (w : Written) (r : Refusal) (n : ℕ) → (when t then w else Refused r) ≡ Bytes n → (t ≡ true) × (w ≡ Bytes n)
+unfolding when◌then◌else◌
 passed true w r n q = (refl, q)
 passed false w r n q = let z : ◌≡◌ {A = ℕ} 0 1 = cc in absurd (omega arith)
 
@@ -36,5 +36,5 @@ judged-fits parts batch clean long room n q =
     record { some = ltb-true 0 parts a.0; small = leb-true batch most_batch b.0; tidy = d.0; enough = leb-true long room e.0; is = cc e.1 }
 
 pub fits-judged : (parts batch : ℕ) (clean : Bool) (long room : ℕ) → Fits parts batch clean long room long → judged_of parts batch clean long room ≡ Bytes long
-unfolding judged_of if◌then◌else◌
+unfolding judged_of when◌then◌else◌
 fits-judged parts batch clean long room f = rw (lt-ltb 0 parts f.some, le-leb batch most_batch f.small, f.tidy, le-leb long room f.enough)

@@ -1,7 +1,7 @@
 -- Writing the file of a setup (document 02, W6).
 use Rattle.std.specs.Prelude.{ℕ, ◌+◌, Bool, true, false, List, [], leb, ltb, length}
 use Rattle.std.proofs.Math.Option.{Option, none, some}
-use Rattle.basics.specs.Choice.{if◌then◌else◌}
+use Rattle.basics.specs.Choice.{when◌then◌else◌}
 use Rattle.basics.specs.Lay.{laid_at}
 use Rattle.setting.specs.Setting.{clean_of}
 use Rattle.setup_file.specs.Setup.{Setup, most_batch}
@@ -37,9 +37,9 @@ clean_part (some bytes) = clean_of bytes
 -- file that is longer than the room
 unfoldable pub judged_of : ℕ → ℕ → Bool → ℕ → ℕ → Written
 judged_of parts batch clean long room =
-    if ltb 0 parts then (
-    if leb batch most_batch then (
-    if clean then (if leb long room then Bytes long else Refused why.Room) else Refused why.Bits
+    when ltb 0 parts then (
+    when leb batch most_batch then (
+    when clean then (when leb long room then Bytes long else Refused why.Room) else Refused why.Bits
     ) else Refused why.Places
     ) else Refused why.Contents
 

@@ -1,10 +1,10 @@
 -- Bytes as lowercase hex digits (document 01, "Records and what comes back", the listing program).
 use Rattle.std.specs.Prelude.{ℕ, ◌+◌, ◌-◌, ◌/◌, ◌%◌, List, [], ◌∷◌, ◌++◌, ltb}
-use Rattle.basics.specs.Choice.{if◌then◌else◌}
+use Rattle.basics.specs.Choice.{when◌then◌else◌}
 
 -- the code of a digit below 16: `0` to `9` from 48 on, `a` to `f` from 97 on
 unfoldable pub digit_of : ℕ → ℕ
-digit_of n = if ltb n 10 then 48 + n else 97 + (n - 10)
+digit_of n = when ltb n 10 then 48 + n else 97 + (n - 10)
 
 -- a byte's digits, the high one first
 unfoldable pub pair_of : ℕ → List ℕ

@@ -2,7 +2,7 @@
 -- from the start of one line to the start of the next of its row nothing but the line and the two counts; each of them is a closed
 -- form of how many were passed. How many may be passed is said by what they must not pass, so that any count that keeps to it will do.
 use Rattle.std.specs.Prelude.{ℕ, ◌+◌, ◌*◌, ◌-◌, ◌%◌, ◌<◌, ◌≤◌, false, ◌≡◌, eqb, ltb, leb}
-use Rattle.basics.specs.Choice.{if◌then◌else◌}
+use Rattle.basics.specs.Choice.{when◌then◌else◌}
 use Rattle.basics.specs.Iterate.{iterate}
 use Rattle.raster.specs.Registers.{reg}
 use Rattle.raster.specs.declared.registers.Registers.{Registers}
@@ -36,8 +36,8 @@ pub record Reached (r : Registers) (remaining : ℕ) (p : Place) (s : Skip) : Ty
 -- at all k where R2 is not among those arrived at.
 unfoldable pub hsync_columns : Registers → ℕ → ℕ → ℕ → ℕ
 hsync_columns r column k count =
-    if leb (reg r 2) column then count - k
-    else if ltb (column + k) (reg r 2) then count - k
+    when leb (reg r 2) column then count - k
+    else when ltb (column + k) (reg r 2) then count - k
     else reg r 3 % 16 - (column + k - reg r 2)
 
 -- HSYNC, m lines on from a line's first column to another's. Every line loads it anew, so only the last load counts: at R2 of the last
@@ -45,9 +45,9 @@ hsync_columns r column k count =
 -- column R2 never loads it.
 unfoldable pub hsync_lines : Registers → ℕ → ℕ → ℕ
 hsync_lines r m count =
-    if eqb m 0 then count
-    else if ltb (reg r 0) (reg r 2) then count - m * (reg r 0 + 1)
-    else if eqb (reg r 2) 0 then reg r 3 % 16
+    when eqb m 0 then count
+    else when ltb (reg r 0) (reg r 2) then count - m * (reg r 0 + 1)
+    else when eqb (reg r 2) 0 then reg r 3 % 16
     else reg r 3 % 16 - (reg r 0 - reg r 2) - 1
 
 -- the scan at another column

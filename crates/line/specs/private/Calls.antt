@@ -1,6 +1,6 @@
 -- What the line's own functions say (document 02, W3).
 use Rattle.std.specs.Prelude.{ℕ, Bool, List, [], ◌∷◌, get_or}
-use Rattle.basics.specs.Choice.{if◌then◌else◌}
+use Rattle.basics.specs.Choice.{when◌then◌else◌}
 use Rattle.line.specs.declared.calls.Met.{Met}
 use Rattle.line.specs.declared.calls.Met.TheVariants.{Closed, Short, Full, Whole}
 
@@ -11,4 +11,4 @@ first_record l = get_or l 0 0 ∷ get_or l 1 0 ∷ get_or l 2 0 ∷ get_or l 3 0
 -- What a cut meets: a closed line is looked at first, and the room only where a record is whole.
 unfoldable pub meets_of : Bool → Bool → Bool → Met
 meets_of closed short full =
-    if closed then Closed else if short then Short else if full then Full else Whole
+    when closed then Closed else when short then Short else when full then Full else Whole

@@ -1,7 +1,7 @@
 -- How the locator goes over the cells (document 01, "The locator", and request W5): row by row, and in a row by two parts. In the first
 -- part the line goes on for two characters more, and only one column can fit; the second has what the picture has of the line's last two.
 use Rattle.std.specs.Prelude.{ℕ, ◌+◌, ◌-◌, ◌%◌, min, Bool, map, ◌==◌}
-use Rattle.basics.specs.Choice.{if◌then◌else◌}
+use Rattle.basics.specs.Choice.{when◌then◌else◌}
 use Rattle.basics.specs.Count.{count}
 use Rattle.raster.specs.Registers.{reg}
 use Rattle.raster.specs.declared.registers.Registers.{Registers}
@@ -24,7 +24,7 @@ line_fits_of r latch c line = cell_latch_of r c line == latch
 
 -- of one cell, by whether it fits
 unfoldable pub one_fit_of : Bool → Cell → Fit
-one_fit_of fits c = if fits then One c else Free
+one_fit_of fits c = when fits then One c else Free
 
 -- so many of a row's columns stand two or more before the line's end
 abbrev pub front_of : Registers → ℕ

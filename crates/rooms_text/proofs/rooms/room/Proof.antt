@@ -4,7 +4,7 @@ use native.Mathlib.Omega.{arith}
 use lib.ListN.{length, take, drop, length-take, length-drop}
 use lib.Seq.{take_all}
 use borrow.Author.Tests.{lt-ltb, le-ltb}
-use Rattle.basics.specs.Choice.{if◌then◌else◌}
+use Rattle.basics.specs.Choice.{when◌then◌else◌}
 use Rattle.batch.specs.Fresh.{most_bytes, most_output}
 use Rattle.text.proofs.Whole.{whole-text}
 use Rattle.rooms_text.specs.Rooms.{head_bytes, room_text_of}
@@ -20,7 +20,7 @@ put-requires : tie.Need-put-requires
 put-requires c κs = search rules
 
 returns : tie.Need-returns
-unfolding room_text_of if◌then◌else◌
+unfolding room_text_of when◌then◌else◌
 returns c =
     let short = c.before.before.before in
     let input = short.before.before.args.input.now in
@@ -33,7 +33,7 @@ put-requires-2 : tie.Need-put-requires-2
 put-requires-2 c κs = search rules
 
 returns-2 : tie.Need-returns-2
-unfolding room_text_of if◌then◌else◌
+unfolding room_text_of when◌then◌else◌
 returns-2 c =
     let long = c.before.before.before in
     let input = long.before.before.before.args.input.now in (
@@ -73,7 +73,7 @@ shown-requires c κs =
     (simp (length-take, length-drop) (omega arith), rw (length_front r.result most_output 0xA5 r.ensures.1) r.ensures.1)
 
 returns-3 : tie.Need-returns-3
-unfolding room_text_of if◌then◌else◌
+unfolding room_text_of when◌then◌else◌
 returns-3 c =
     let shown = c.before in
     let sliced = shown.before in

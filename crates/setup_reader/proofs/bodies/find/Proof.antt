@@ -5,7 +5,7 @@ use mathlib.Core.List.{List}
 use native.Mathlib.Omega.{arith}
 use borrow.Author.Tests.{eq-eqb, ne_eqb}
 use Rattle.setup_reader.specs.declared.entries.Entry.{Entry}
-use Rattle.basics.specs.Choice.{if◌then◌else◌}
+use Rattle.basics.specs.Choice.{when◌then◌else◌}
 use Rattle.setup_reader.specs.Read.{place_in}
 use Rattle.setup_reader.proofs.Walking.{left, left-all, left-first, left-none}
 use Rattle.setup_reader.specs.Entries.{entries_at}
@@ -34,7 +34,7 @@ cast-t9 : tie.Need-overflow-cast-t9 invariant-loop decreases-loop
 cast-t9 c = search rules
 
 returns : tie.Need-returns invariant-loop decreases-loop
-unfolding place_in if◌then◌else◌
+unfolding place_in when◌then◌else◌
 returns c =
     let test = c.before.before in
     let read = test.before.before in
@@ -52,7 +52,7 @@ loop-less : tie.Need-loop-smaller invariant-loop decreases-loop
 loop-less c = search rules
 
 loop-again : tie.Need-loop-preserved invariant-loop decreases-loop
-unfolding place_in if◌then◌else◌
+unfolding place_in when◌then◌else◌
 loop-again c =
     let read = c.before.before in
     let turn = read.before.before in
