@@ -1,0 +1,8 @@
+use Rattle.clocks.proofs.Reaching.{reached-none, reached-lines}
+use Rattle.clocks.proofs.place.Place.skip_lines.Goals as goal
+
+pub returns-then-remaining-times : goal.returns-then-remaining-times
+returns-then-remaining-times c = search reached-none
+
+pub returns : goal.returns
+returns c = search reached-lines
