@@ -11,7 +11,7 @@ use Rattle.pen.specs.Pen.{no_pen, struck_of}
 use Rattle.controller.specs.Chip.{strike_at}
 use Rattle.controller.specs.Reads.{read_of}
 use Rattle.controller.specs.declared.chip.Controller.{Controller}
-use Rattle.controller.proofs.Reading.{after_read}
+use Rattle.controller.proofs.ReadingLaws.{after_read}
 
 -- what every character time keeps, a clock of any number keeps
 pub clock-keeps : (P : Controller → Type 0) → ((c : Controller) → P c → P (step_of c)) → (n : ℕ) (c : Controller) → P c → P (clock_of n c)

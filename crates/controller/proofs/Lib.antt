@@ -1,5 +1,5 @@
 pub mod Clocking
-pub mod Reading
+pub mod ReadingLaws
 pub mod Keeping
 pub mod Widths
 pub mod Times

@@ -25,7 +25,7 @@ use Rattle.controller.specs.Reads.{read_of}
 use Rattle.controller.specs.Widths.{Within}
 use Rattle.controller.specs.declared.chip.Controller.{Controller}
 use Rattle.controller.proofs.Keeping.{clock-keeps}
-use Rattle.controller.proofs.Reading.{after_read}
+use Rattle.controller.proofs.ReadingLaws.{after_read}
 
 -- registers: all zero they are within, and a write leaves them so
 zero-within : RegistersWithin no_registers

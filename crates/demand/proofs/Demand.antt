@@ -18,7 +18,7 @@ use Rattle.controller.specs.Reads.{read_of}
 use Rattle.controller.specs.declared.chip.Controller.{Controller}
 use Rattle.controller.proofs.Keeping.{clock-regs, clock-pen, strike-regs, strike-pen, reset-pen}
 use Rattle.pen.proofs.Pens.{none-holds, struck-holds, struck-newest, emptied-holds, emptied-newest}
-use Rattle.controller.proofs.Reading.{after_read}
+use Rattle.controller.proofs.ReadingLaws.{after_read}
 use Rattle.frames.specs.Calls.{after_calls, Wait, Act, waits, strikes, after_acts}
 use Rattle.frames.specs.Places.{Region}
 use Rattle.frames.proofs.Acting.{acts-append, strike-first, waits-keep}

@@ -14,7 +14,7 @@ use Rattle.controller.specs.Reads.{read_of}
 use Rattle.controller.specs.declared.chip.Controller.{Controller}
 use Rattle.controller.specs.declared.reads.Reading.{Reading}
 use Rattle.controller.proofs.Keeping.{strike-regs, strike-pen}
-use Rattle.controller.proofs.Reading.{read-high, read_low}
+use Rattle.controller.proofs.ReadingLaws.{read-high, read_low}
 use Rattle.controller.proofs.Times.{shown-ma, shown-picture}
 use Rattle.demand.specs.Latches.{Latches, EveryStrike}
 

@@ -6,7 +6,7 @@ use native.Mathlib.Omega.{arith}
 use Rattle.basics.specs.Bits.{num}
 use Rattle.controller.specs.Reads.{read_of}
 use Rattle.controller.specs.declared.reads.Reading.{Reading}
-use Rattle.controller.proofs.Reading.{read-cursor, read-high, read_low, read_below, read_above, read-status}
+use Rattle.controller.proofs.ReadingLaws.{read-cursor, read-high, read_low, read_below, read_above, read-status}
 use Rattle.record.proofs.Lines.{read-record}
 use Rattle.alone.proofs.Reading.{read_told}
 use Rattle.bench.specs.Step.{with_controller, on_decoded, step_of}
