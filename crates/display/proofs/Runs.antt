@@ -30,4 +30,4 @@ pub fetches-on : (m : Mode) (d : Display) (i remaining k : ℕ) (e f g : Display
 unfolding iterate
 fetches-on m d i remaining k e f g p q h z =
     let n : i + (k + 1) ≡ suc (k + i) = omega arith in
-    rw (n, iterate-add, ← p) (z ∙ ap (fetch_of m) (h ∙ sym (fetches-at-once m e k q.low)))
+    rw (n, iterate-add (fetch_of m) k i d, ← p) (z ∙ ap (fetch_of m) (h ∙ sym (fetches-at-once m e k q.low)))
