@@ -15,7 +15,7 @@ use Rattle.pen.specs.Pen.{no_pen, struck_of, emptied_of, holds_of, newest_of, un
 use Rattle.controller.specs.Reads.{after_read_of, register_read_of, read_of}
 use Rattle.controller.specs.Writes.{addressed_of, stored_of, written_of}
 use Rattle.frames.specs.Calls.{after_call, after_calls, after_wait, after_act, after_acts}
-use Rattle.locator.specs.Cells.{IsCell, cell_at, cells_from, cell_address_of, cell_latch_of, any_of, fits_of, keep, the_fit, fit_of}
+use Rattle.locator.specs.Cells.{cell_at, cells_from, cell_address_of, cell_latch_of, any_of, fits_of, keep, the_fit, fit_of}
 use Rattle.locator.specs.Locate.{refusal_of, named_of, strike_found_of, locate_of}
 use Rattle.locator.specs.declared.cells.Cell.{Cell}
 use Rattle.demand.specs.Demand.{struck_at, answer_to, Rival, OneCellEach}
