@@ -9,8 +9,8 @@ ghost use Rattle.frames.specs.Places.{frame_times};
 ghost use Rattle.settled.specs.Cases.{cases, set_of, reached_of, seen_of};
 
 use controller::Controller;
-use libc::STDOUT_FILENO;
 use locator::locate;
+use std::io;
 
 // R0, R1, R4, R5, R6, R8, R9, R12, R13, clocks, and 1 for a strike.
 const CASES: [[u8; 11]; 26] = [
@@ -118,22 +118,18 @@ fn seen(k: [u8; 11]) -> [u32; 8]
     ]
 }
 
-fn show(numbers: [u32; 8]) {
-    let mut i: usize = 0;
-    while i < 8 {
-        io::write_all(STDOUT_FILENO, b" ");
-        io::print_decimal(STDOUT_FILENO, numbers[i] as u64);
-        i += 1;
+fn show(rt: &HostRuntime, numbers: [u32; 8]) -> io::Result<()> {
+    for number in numbers {
+        print!(rt; " {number}")?;
     }
-    io::write_all(STDOUT_FILENO, b"\n");
+    println!(rt)
 }
 
-fn main() {
-    let mut i: u8 = 0;
-    while i < 26 {
-        let letter = [b'a' + i];
-        io::write_all(STDOUT_FILENO, &letter);
-        show(seen(numbered(i)));
-        i += 1;
+fn main(rt: HostRuntime) -> io::Result<()> {
+    for i in 0..26 {
+        let letter = char::from(b'a' + i);
+        print!(rt; "{letter}")?;
+        show(&rt, seen(numbered(i)))?;
     }
+    Ok(())
 }

@@ -17,8 +17,8 @@ abbrev pub f_of : Control → ℕ
 f_of c = c.bits / 8 % 128
 
 -- P, which stands for A15 of a processor's address
-abbrev pub pOf : Control → Bool
-pOf c = bit 10 c.bits
+abbrev pub p_of : Control → Bool
+p_of c = bit 10 c.bits
 
 -- R0, the rate by address
 abbrev pub r0_of : Control → Bool

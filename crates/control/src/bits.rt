@@ -1,6 +1,6 @@
 // The control bits and their names.
 ghost use Rattle.std.specs.Prelude.{◌≡◌};
-ghost use Rattle.control.specs.Names.{clear_of, mode_of, f_of, pOf, r0_of, r1_of, m0_of, m1_of, ty_of};
+ghost use Rattle.control.specs.Names.{clear_of, mode_of, f_of, p_of, r0_of, r1_of, m0_of, m1_of, ty_of};
 
 // All sixteen as one number, V0 the lowest bit and TY the highest.
 #[derive(Clone, Copy)]
@@ -32,7 +32,7 @@ impl Control {
 
     // The page, which stands for A15.
     pub fn p(self) -> bool
-        ensures { result ≡ pOf self }
+        ensures { result ≡ p_of self }
     {
         self.bits / 1024 % 2 == 1
     }

@@ -5,9 +5,9 @@
 ghost use Rattle.std.specs.Prelude.{◌≤◌, length};
 
 use cuts_text::{is_list, make, refusal};
-use libc::{STDERR_FILENO, STDIN_FILENO, STDOUT_FILENO};
 use line::Line;
 use replay::unread_rest;
+use streams::{is_readable, read_full, write_all};
 use text::said;
 
 // The line after a call, how many bytes of the list said it, and whether its text was written.
@@ -19,13 +19,13 @@ struct Call {
 }
 
 // Makes the first call of the list, and prints its text.
-fn one_call(before: Line, rest: &[u8]) -> Call
+fn one_call(rt: &HostRuntime, before: Line, rest: &[u8]) -> Call
     ensures { result.used ≤ length rest.now }
 {
     let mut text = [0u8; cuts_text::TEXT];
     let made = make(before, rest, &mut text);
     let k = made.long;
-    let written = io::write_all(STDOUT_FILENO, &text[..k]);
+    let written = write_all(&mut rt.stdout(), &text[..k]);
     let line = made.line;
     Call {
         line,
@@ -35,11 +35,11 @@ fn one_call(before: Line, rest: &[u8]) -> Call
 }
 
 // Call after call, to the end of the list. Gives whether all texts were written.
-fn all_calls(list: &[u8]) -> bool {
+fn all_calls(rt: &HostRuntime, list: &[u8]) -> bool {
     let mut line = Line::fresh();
     let mut at: usize = 0;
     while at < list.len() {
-        let call = one_call(line, unread_rest(list, at));
+        let call = one_call(rt, line, unread_rest(list, at));
         line = call.line;
         if !call.written {
             return false;
@@ -52,23 +52,22 @@ fn all_calls(list: &[u8]) -> bool {
     true
 }
 
-fn main() {
-    // A read of no bytes tells whether there is an input at all: read_full would take a failure for its end.
-    let mut nothing = [0u8; 1];
-    let readable = libc::read(STDIN_FILENO, &mut nothing[..0]) >= 0;
+fn main(rt: HostRuntime) {
+    // Asked first: read_full would take a failure for the input's end.
+    let readable = is_readable(&mut rt.stdin());
     let mut space = [0u8; cuts_text::INPUT + 1];
-    let n = io::read_full(STDIN_FILENO, &mut space);
+    let n = read_full(&mut rt.stdin(), &mut space);
     let input: &[u8] = &space[..n];
     let listed = is_list(input);
     let words = refusal();
     let none: &[u8] = &words;
-    let refused = io::write_all(STDOUT_FILENO, &none[..said(readable & !listed, none)]);
-    let shown = all_calls(&input[..said(readable & listed, input)]);
+    let refused = write_all(&mut rt.stdout(), &none[..said(readable & !listed, none)]);
+    let shown = all_calls(&rt, &input[..said(readable & listed, input)]);
     let unread: &[u8] = b"standard input cannot be read\n";
-    io::write_all(STDERR_FILENO, &unread[..said(!readable, unread)]);
+    write_all(&mut rt.stderr(), &unread[..said(!readable, unread)]);
     let unwritten: &[u8] = b"standard output cannot be written\n";
-    io::write_all(
-        STDERR_FILENO,
+    write_all(
+        &mut rt.stderr(),
         &unwritten[..said(!(refused & shown), unwritten)],
     );
 }

@@ -10,7 +10,6 @@ use Rattle.pen.specs.declared.pen.Strike.{Strike}
 use Rattle.pen.proofs.Pens.{struck-newest}
 use Rattle.controller.specs.Chip.{step_of, clock_of, strike_at, strike_of}
 use Rattle.controller.specs.Pins.{outputs_of}
-use Rattle.controller.specs.Reads.{read_of}
 use Rattle.controller.specs.declared.chip.Controller.{Controller}
 use Rattle.controller.specs.declared.reads.Reading.{Reading}
 use Rattle.controller.proofs.Keeping.{strike-regs, strike-pen}

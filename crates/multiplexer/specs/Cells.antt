@@ -3,7 +3,7 @@ use Rattle.std.specs.Prelude.{ℕ, ◌+◌, ◌*◌, ◌/◌, ◌%◌}
 use Rattle.basics.specs.Bits.{num}
 use Rattle.basics.specs.Choice.{when◌then◌else◌}
 use Rattle.control.specs.declared.bits.Control.{Control}
-use Rattle.control.specs.Names.{pOf, m0_of, m1_of, ty_of}
+use Rattle.control.specs.Names.{p_of, m0_of, m1_of, ty_of}
 use Rattle.multiplexer.specs.declared.cells.MemoryCell.{MemoryCell}
 
 -- The memory size by M1 M0, as the rows that one bank has; its columns are as many. 00 is 64, 01 is 128, both others are 256.
@@ -22,4 +22,4 @@ no_cell = record { bank = 0; row = 0; column = 0 }
 
 -- The processor's address on its way to the memory: with TY clear P takes the place of A15, with TY set nothing is changed.
 unfoldable pub routed_of : Control → ℕ → ℕ
-routed_of c a = when ty_of c then a else num (pOf c) * 0x8000 + a % 0x8000
+routed_of c a = when ty_of c then a else num (p_of c) * 0x8000 + a % 0x8000

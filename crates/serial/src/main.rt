@@ -2,44 +2,53 @@
 // is closed. What is made of the bytes, and what is said of a failure, proved functions decide.
 #![tactic(auto)]
 
-use libc::{STDERR_FILENO, STDIN_FILENO, STDOUT_FILENO};
 use line::Line;
 use serial_text::{space, tell, tell_end};
+use std::io::Read;
+use streams::write_all;
 use text::said;
 
-// The line after a turn, what the read gave, and whether the text was written.
+// The line after a turn, whether the input could be read, whether anything came, and whether the text was written.
 #[derive(Clone, Copy)]
 struct Turn {
     line: Line,
-    got: isize,
+    readable: bool,
+    came: bool,
     written: bool,
 }
 
 // Reads once, and prints the answers to what came. Where nothing came, the cut is empty, and so is the text.
-fn one_turn(before: Line) -> Turn {
+fn one_turn(rt: &HostRuntime, before: Line) -> Turn {
     let mut cut = space();
-    let got = libc::read(STDIN_FILENO, &mut cut);
-    let n = io::count(got, &cut);
+    let got = rt.stdin().read(&mut cut);
+    let readable = got.is_ok();
+    let n = got.unwrap_or(0);
     let mut text = [0u8; serial_text::TEXT];
     let told = tell(before, &cut[..n], &mut text);
     let k = told.long;
-    let written = io::write_all(STDOUT_FILENO, &text[..k]);
+    let written = write_all(&mut rt.stdout(), &text[..k]);
     let line = told.line;
-    Turn { line, got, written }
+    Turn {
+        line,
+        readable,
+        came: n > 0,
+        written,
+    }
 }
 
 // Turn after turn, until nothing comes or nothing can be written. A loop has to be shown to end, and no input has to: so the turns are
 // counted down, from a number that no run uses up.
-fn all_turns(first: Line) -> Turn {
+fn all_turns(rt: &HostRuntime, first: Line) -> Turn {
     let mut last = Turn {
         line: first,
-        got: 1,
+        readable: true,
+        came: true,
         written: true,
     };
     let mut left = u64::MAX;
     while left > 0 {
-        last = one_turn(last.line);
-        if last.got <= 0 || !last.written {
+        last = one_turn(rt, last.line);
+        if !last.came || !last.written {
             return last;
         }
         left -= 1;
@@ -47,18 +56,18 @@ fn all_turns(first: Line) -> Turn {
     last
 }
 
-fn main() {
-    let last = all_turns(Line::fresh());
-    let ended = (last.got == 0) & last.written;
+fn main(rt: HostRuntime) {
+    let last = all_turns(&rt, Line::fresh());
+    let ended = last.readable & !last.came & last.written;
     let mut text = [0u8; serial_text::LAST];
     let k = tell_end(last.line, &mut text);
     let shown: &[u8] = &text[..k];
-    let written = io::write_all(STDOUT_FILENO, &shown[..said(ended, shown)]);
+    let written = write_all(&mut rt.stdout(), &shown[..said(ended, shown)]);
     let unread: &[u8] = b"standard input cannot be read\n";
-    io::write_all(STDERR_FILENO, &unread[..said(last.got < 0, unread)]);
+    write_all(&mut rt.stderr(), &unread[..said(!last.readable, unread)]);
     let unwritten: &[u8] = b"standard output cannot be written\n";
-    io::write_all(
-        STDERR_FILENO,
+    write_all(
+        &mut rt.stderr(),
         &unwritten[..said(!(last.written & written), unwritten)],
     );
 }

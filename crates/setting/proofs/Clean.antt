@@ -1,19 +1,16 @@
 -- A setting without a forbidden bit. Assumes nothing.
-use Prim.Native.Nat.{ℕ, zero, suc, ◌+◌, ◌-◌, ◌<◌, ◌≤◌}
+use Prim.Native.Nat.{ℕ, suc, ◌+◌, ◌-◌, ◌<◌}
 use mathlib.Core.Bool.{Bool, true, false, ◌&&◌}
-use mathlib.Core.Path.{◌≡◌, refl, ap, sym, ◌∙◌}
-use mathlib.Core.List.{List, map}
+use mathlib.Core.Path.{◌≡◌, refl, sym, ◌∙◌}
+use mathlib.Core.List.{List}
 use native.Mathlib.Numerals.{add-one}
 use native.Mathlib.Omega.{arith}
 use lib.Dec.{eqb}
-use lib.ListN.{length, get_or}
-use lib.Seq.{ext_get_or}
-use borrow.Author.Tests.{eq-eqb, eqb-true, ne_eqb}
+use lib.ListN.{get_or}
+use borrow.Author.Tests.{eq-eqb, ne_eqb}
 use Rattle.basics.specs.Count.{count}
-use Rattle.basics.proofs.Counting.{length-each, each_at}
-use Rattle.basics.proofs.Cases.{and_yes, and_no}
 use Rattle.controller.specs.Writes.{kept_of}
-use Rattle.setting.specs.Setting.{bytes, cut_of, keep_all, clean_of}
+use Rattle.setting.specs.Setting.{bytes, keep_all, clean_of}
 
 module _ (given : List ℕ) where
   -- what register k is asked

@@ -2,15 +2,13 @@
 -- Assumes nothing.
 use Prim.Native.Nat.{ℕ, zero, suc, ◌+◌, ◌-◌, ◌*◌, ◌%◌, ◌<◌, ◌≤◌, max}
 use mathlib.Core.Path.{◌≡◌, refl, ap, sym, ◌∙◌}
-use mathlib.Core.Bool.{Bool}
-use mathlib.Core.List.{List, map, map-append}
+use mathlib.Core.List.{map-append}
 use native.Mathlib.Nat.{max-le}
 use native.Mathlib.Numerals.{add-one}
 use native.Mathlib.Omega.{arith}
 use lib.Bits.{xor_lt}
 use lib.Dec.{ltb}
 use lib.Count.{ones-le}
-use lib.ListN.{length}
 use Rattle.basics.specs.Bits.{num}
 use Rattle.basics.specs.Count.{count}
 use Rattle.basics.specs.Iterate.{iterate}
@@ -35,7 +33,7 @@ use Rattle.controller.specs.declared.pins.Outputs.{Outputs}
 use Rattle.controller.proofs.Keeping.{clock-regs}
 use Rattle.controller.proofs.Times.{clock-none, clock-more, step-scan, step-sync, step_left, step-regs, shown-ma, shown-picture, shown-display, shown-cursor, shown-hsync, shown-vsync}
 use Rattle.tally.specs.Sums.{sum, greatest}
-use Rattle.tally.specs.Tally.{shown_of, times_of, how_many, changed_of, change_of, changes_of, tallied_of, no_tally, AtMost}
+use Rattle.tally.specs.Tally.{shown_of, changed_of, change_of, tallied_of, no_tally, AtMost}
 use Rattle.tally.specs.private.Pass.{with_of, pins_of, pass_of, turn_of}
 use Rattle.tally.specs.declared.tally.Tally.{Tally}
 use Rattle.tally.specs.declared.pass.Pass.{Pass}

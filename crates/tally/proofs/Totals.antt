@@ -1,6 +1,6 @@
 -- A frame's totals as sums over its times. Assumes nothing.
 use Prim.Native.Nat.{ℕ}
-use mathlib.Core.Path.{◌≡◌, ap, ap₂, ◌∙◌}
+use mathlib.Core.Path.{◌≡◌, ap, ◌∙◌}
 use mathlib.Core.List.{map, map-map}
 use Rattle.basics.specs.Bits.{num}
 use Rattle.basics.specs.Count.{count}

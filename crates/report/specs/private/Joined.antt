@@ -1,5 +1,5 @@
 -- Totals with one row more (document 02, W1).
-use Rattle.std.specs.Prelude.{ℕ, ◌+◌, max}
+use Rattle.std.specs.Prelude.{◌+◌, max}
 use Rattle.tally.specs.declared.tally.Tally.{Tally}
 
 -- the sums, and the greater of the two largest changes
