@@ -109,7 +109,7 @@ pub fn display_fetches(bits: u16, from: Display, n: u16) -> Display
 pub fn settings_report(settings: &[u8], places: &mut [u64]) -> u8
     ensures said { result ≡ refusal_of settings.now places.old }
     ensures laid { places.new ≡ reported_of settings.now places.old }
-    ensures kept { settings.now ≡ settings.now }
+    ensures kept { settings.exit.now ≡ settings.entry.now }
 {
     let said = report::report(settings, places);
     said

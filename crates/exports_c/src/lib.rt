@@ -100,7 +100,7 @@ pub extern "C" fn display_fetches(bits: u16, from: Display, n: u16) -> Display
 pub extern "C" fn settings_report(settings: &[u8], places: &mut [u64]) -> u8
     ensures said { result ≡ refusal_of settings.now places.old }
     ensures laid { places.new ≡ reported_of settings.now places.old }
-    ensures kept { settings.now ≡ settings.now }
+    ensures kept { settings.exit.now ≡ settings.entry.now }
 {
     exports::settings_report(settings, places)
 }
