@@ -44,10 +44,10 @@ class Programs(ContractsTest):
         self.assertMain("use text::said;", "use alpha::said;")
 
     def test_a_helper_whose_contract_says_nothing(self):
-        self.assertMain("fn main()", "fn cut(n: usize) -> usize\n    ensures { λ r. ⌜ 0 ≡ 0 ⌝ }\n{\n    if n == 2000 { 0 } else { n }\n}\n\nfn main()")
+        self.assertMain("fn main()", "fn cut(n: usize) -> usize\n    ensures { 0 ≡ 0 }\n{\n    if n == 2000 { 0 } else { n }\n}\n\nfn main()")
 
     def test_a_main_whose_contract_says_nothing(self):
-        self.assertMain("fn main() {", "fn main()\n    ensures { λ r. ⌜ 0 ≡ 0 ⌝ }\n{")
+        self.assertMain("fn main() {", "fn main()\n    ensures { 0 ≡ 0 }\n{")
 
     def test_a_file_besides(self):
         self.files["crates/listing/src/more.rt"] = "// No code.\n"

@@ -19,7 +19,7 @@ class Rules(DocsTest):
         self.assertEdit(RULES, "| `alpha: two` |", "| alpha: two |", "each in its quotes, and not alpha: two")
 
     def test_one_of_two_entries_without_its_quotes(self):
-        self.assertEdit(RULES, "`alpha: oneOf`, `alpha: first`", "`alpha: oneOf`, alpha: none", "each in its quotes")
+        self.assertEdit(RULES, "`alpha: one_of`, `alpha: first`", "`alpha: one_of`, alpha: none", "each in its quotes")
 
     def test_no_wrong_program(self):
         self.assertEdit(RULES, "| `alpha: two` |", "|  |", "under refused stands `crate: name`")
@@ -34,7 +34,7 @@ class Rules(DocsTest):
         self.assertEdit(RULES, "| `alpha: two` |", "| `alpha: two`", "a row of a table begins and ends with |")
 
     def test_a_definition_in_a_comment_only(self):
-        self.assertEdit(RULES, "`alpha: first`", "`alpha: ghostOf`", "no definition ghostOf in crate alpha")
+        self.assertEdit(RULES, "`alpha: first`", "`alpha: ghost_of`", "no definition ghost_of in crate alpha")
 
     def test_a_field_in_a_comment_only(self):
         self.assertEdit(RULES, "`alpha: first`", "`alpha: hidden`", "no definition hidden in crate alpha")
@@ -93,7 +93,7 @@ class Quotes(DocsTest):
         self.assertQuote("`alpha: three`", "crate alpha has no three")
         self.assertQuote("`beta: one`", "crate beta has no one")
         self.assertQuote("`threeOf`", "`threeOf` names nothing")
-        self.assertQuote("`crates/alpha/specs/One.antt: ghostOf`", "no ghostOf in crates/alpha/specs/One.antt")
+        self.assertQuote("`crates/alpha/specs/One.antt: ghost_of`", "no ghost_of in crates/alpha/specs/One.antt")
 
     def test_commands_that_are_none(self):
         self.assertQuote("`rt dev beta`", "`rt dev beta` is no command")
@@ -105,7 +105,7 @@ class Quotes(DocsTest):
         self.assertQuote("`alpha", "a quote that is not closed")
 
     def test_a_quote_over_two_lines(self):
-        self.assertEdit(DECISIONS, "`oneOf`\nand", "`three\nOf` and", "names nothing that is there")
+        self.assertEdit(DECISIONS, "`one_of`\nand", "`three\nOf` and", "names nothing that is there")
 
     def test_a_comment_that_is_not_seen(self):
         self.assertQuote("<!-- this -->", "a comment that a reader does not see")
