@@ -96,7 +96,8 @@ class Quotes(DocsTest):
         self.assertQuote("`crates/alpha/specs/One.antt: ghost_of`", "no ghost_of in crates/alpha/specs/One.antt")
 
     def test_commands_that_are_none(self):
-        self.assertQuote("`rt dev beta`", "`rt dev beta` is no command")
+        self.assertQuote("`rt ci beta`", "`rt ci beta` is no command")
+        self.assertQuote("`rt dev alpha`", "`rt dev alpha` is no command")
         self.assertQuote("`rt do alpha`", "`rt do alpha` is no command")
         self.assertQuote("`tools/none --all`", "there is no tools/none")
         self.assertQuote("`tools/check-docs --none`", "tools/check-docs has no --none")

@@ -22,7 +22,8 @@ case "$said" in "${{FAULT:-none}}"*) exit 1 ;; esac
 STEPS = (
     "the second program's formatting", "the second program's tests", "the second program's build", "the second program's lints",
     "shell scripts", "the public contracts", "the rules and the promises", "the tools' own tests", "what the must-fail edits edit",
-    "proofs, must-fail edits and programs", "what the must-fail edits are refused for", "the examples through the second program",
+    "proofs, must-fail edits and programs", "what the must-fail edits are refused for",
+    "what may hide in must-fail edits of several parts", "the examples through the second program",
     "the examples and the desk", "the programs at their edges", "the header for C and the linked calls",
     "the comparison of both programs",
 )
