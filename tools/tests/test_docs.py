@@ -92,7 +92,7 @@ class Quotes(DocsTest):
     def test_names_that_are_none(self):
         self.assertQuote("`alpha: three`", "crate alpha has no three")
         self.assertQuote("`beta: one`", "crate beta has no one")
-        self.assertQuote("`threeOf`", "`threeOf` names nothing")
+        self.assertQuote("`three_of`", "`three_of` names nothing")
         self.assertQuote("`crates/alpha/specs/One.antt: ghost_of`", "no ghost_of in crates/alpha/specs/One.antt")
 
     def test_commands_that_are_none(self):
@@ -137,11 +137,11 @@ class Desk(DocsTest):
 class Definitions(DocsTest):
     """What a reader has to believe stands apart from what serves private contracts."""
 
-    LONE = "-- lone\nabbrev pub loneOf : ℕ\nloneOf = 0\n"
+    LONE = "-- lone\nabbrev pub lone_of : ℕ\nlone_of = 0\n"
 
     def test_a_private_one_among_the_others(self):
         self.files["crates/alpha/specs/Two.antt"] = self.LONE
-        self.assertWrong("crates/alpha/specs/Two.antt:2: loneOf belongs in specs/private/")
+        self.assertWrong("crates/alpha/specs/Two.antt:2: lone_of belongs in specs/private/")
 
     def test_a_private_one_in_its_place(self):
         self.files["crates/alpha/specs/private/Two.antt"] = self.LONE

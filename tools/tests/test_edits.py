@@ -313,7 +313,7 @@ class Classes(unittest.TestCase):
 
     def test_names(self):
         self.assertShape(
-            "`returns`: `one_of` is not in scope; did you mean `twoOf`?",
+            "`returns`: `one_of` is not in scope; did you mean `two_of`?",
             "`returns`: record `Controller` has no field `scan`",
             "`returns`: `c .before` has no field `add`; its type is `Given`",
             "`returns`: `Kind` is private to `alpha.Kinds` and the modules below it; to be named from here it wants `pub`",
