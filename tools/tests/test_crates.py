@@ -1,5 +1,5 @@
 """What tools/check-contracts refuses of the list of crates and of the programs, on a small repository."""
-from checks import fixed
+from checks import crates, fixed
 from tests.contracts_tree import ContractsTest
 
 
@@ -13,6 +13,13 @@ class Crates(ContractsTest):
     def test_a_crate_without_a_folder(self):
         self.files["crates.txt"] += "beta: alpha\n"
         self.assertWrong("there is no crates/beta")
+
+    def test_a_static_library(self):
+        self.files["crates.txt"] += "alpha_c staticlib: alpha\n"
+        self.files["crates/alpha_c/src/lib.rt"] = "// No code.\n"
+        self.assertRight()
+        self.assertEqual((crates.libraries(self.top), crates.static_libraries(self.top)), (["alpha", "one_answer"], ["alpha_c"]))
+        self.assertEqual(crates.needed(self.top, ["alpha_c"]), ["alpha", "alpha_c"])
 
     def test_a_crate_listed_twice(self):
         self.files["crates.txt"] += "alpha:\n"
