@@ -205,9 +205,7 @@ def check_programs(top):
         for where, reader in readers.items():
             yield from (f"{where}: {called(function)} is public, in a program" for function in reader.functions if function.public)
             if crate in fixed.PROGRAMS:
-                fault = fixed.program_fault(reader.tokens, fixed.PROGRAMS[crate]) if where.name == "main.rt" else "a file besides main.rt"
-                if fault:
-                    yield f"{where}: {crate} decides nothing, so it is held to its words: {fault}"
+                yield from check_words(crate, where, reader, fixed.PROGRAMS[crate], "main.rt")
 
 
 def body_that_calls(function, crate):
@@ -249,10 +247,28 @@ def call_fault(function, twins):
     return ""
 
 
+def check_words(crate, where, reader, due, file):
+    """Yields what is wrong with a source that is held to its words, in the one file that its crate may have."""
+    fault = fixed.program_fault(reader.tokens, due) if where.name == file else f"a file besides {file}"
+    if fault:
+        yield f"{where}: {crate} decides nothing, so it is held to its words: {fault}"
+
+
+def check_edge(top, crate):
+    """Yields what is wrong with a library that only reads and writes."""
+    readers, wrong = read_all(top, crate)
+    yield from wrong
+    for where, reader in readers.items():
+        yield from check_words(crate, where, reader, fixed.EDGES[crate], "lib.rt")
+
+
 def all_wanted(top):
-    """The laws that all public functions need, and what is wrong with those functions."""
+    """The laws that all public functions need, and what is wrong with those functions. The libraries at the edge have none."""
     wanted, wrong = [], []
     for crate in crates.libraries(top):
+        if crate in fixed.EDGES:
+            wrong += check_edge(top, crate)
+            continue
         laws, faults = wanted_of(top, crate)
         wanted += laws
         wrong += faults

@@ -1,4 +1,4 @@
-"""Texts that may say only one thing: the forms of the laws, what it means that a contract states something, and the programs.
+"""Texts that may say only one thing: the forms of the laws, what it means that a contract states something, the programs and the streams.
 
 Nothing else notices when one of these comes to say less: the laws' and the promises' types only name the forms, and the programs' own code
 has no contract. So each is held to its words here, comments and white space apart, and is changed here and there together.
@@ -20,27 +20,55 @@ STATES = """abbrev pub States : {K : Type 0} {D R S : K → Type 0} → (P Q : (
 States {K} {D} {R} {S} P Q = (κs : K) (a : D κs) (r : R κs) (s : S κs) → P κs a r s → Q κs a r s
 """
 
-LISTING = r"""use libc::STDERR_FILENO;
-use libc::STDIN_FILENO;
-use libc::STDOUT_FILENO;
+LISTING = r"""#![tactic(auto)]
+
+use streams::{is_readable, read_full, write_all};
 use text::said;
 
-fn main() {
-    let mut none = [0u8; 1];
-    let readable = libc::read(STDIN_FILENO, &mut none[..0]) >= 0;
+fn main(rt: HostRuntime) {
+    let readable = is_readable(&mut rt.stdin());
     let mut input = [0u8; lister::INPUT + 1];
-    let n = io::read_full(STDIN_FILENO, &mut input);
+    let n = read_full(&mut rt.stdin(), &mut input);
     let mut text = [0u8; lister::TEXT];
     let k = lister::list(&input[..n], &mut text);
     let shown: &[u8] = &text[..k];
-    let written = io::write_all(STDOUT_FILENO, &shown[..said(readable, shown)]);
+    let written = write_all(&mut rt.stdout(), &shown[..said(readable, shown)]);
     let unread: &[u8] = b"standard input cannot be read\n";
-    io::write_all(STDERR_FILENO, &unread[..said(!readable, unread)]);
+    write_all(&mut rt.stderr(), &unread[..said(!readable, unread)]);
     let unwritten: &[u8] = b"standard output cannot be written\n";
-    io::write_all(STDERR_FILENO, &unwritten[..said(!written, unwritten)]);
+    write_all(&mut rt.stderr(), &unwritten[..said(!written, unwritten)]);
 }
 """
 
+# The library through which the programs read and write.
+STREAMS = r"""#![tactic(auto)]
+
+ghost use Rattle.std.specs.Prelude.{◌≤◌, length};
+
+use std::io::{Read, Write};
+
+pub fn is_readable<R: Read>(from: &mut R) -> bool {
+    from.read(&mut []).is_ok()
+}
+
+pub fn read_full<R: Read>(from: &mut R, buf: &mut [u8]) -> usize
+    ensures { result ≤ length buf.new }
+{
+    let mut n: usize = 0;
+    while n < buf.len() {
+        match from.read(&mut buf[n..]) {
+            Ok(0) => return n,
+            Ok(got) => n += got,
+            Err(_) => return n,
+        }
+    }
+    n
+}
+
+pub fn write_all<W: Write>(to: &mut W, bytes: &[u8]) -> bool {
+    to.write_all(bytes).is_ok()
+}
+"""
 
 
 def program_of(crate, function):
@@ -56,6 +84,11 @@ PROGRAMS = {
     "serial": SERIAL,
     "cuts": CUTS,
 }
+
+
+# The libraries that only read and write. No contract can say what comes in from outside or whether it goes out, so their functions have no
+# law, and stand here by their words.
+EDGES = {"streams": STREAMS}
 
 
 def definitions_fault(text, due):
