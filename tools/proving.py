@@ -2,9 +2,13 @@
 
 `rt run` of a program proves it over the work that rt keeps, builds it, and runs it once, here on an empty input; with nothing changed
 since, it only runs it. `rt lib` does so for the archive of a static library. Both leave what they make in the crate's folder out/.
+
+`rt ci` leaves the programs there too, which it has proved with all below them, but keeps nothing from which `rt run` could go on. So a
+program is noted by the sums of its sources and of itself when it was proved, and is proved anew only where one of these has changed.
 """
 import contextlib
 import fcntl
+import hashlib
 import os
 import queue
 import re
@@ -15,11 +19,13 @@ import threading
 import time
 
 from checks.crates import needed
-from commands import TOP, CannotRun, need
+from commands import TOP, CannotRun, attempt, need
 from progress import Progress
 
 ARCHIVE_CRATE = "exports_c"  # the static library
 ARCHIVE = TOP / "target" / "staticlib" / "libexports.a"  # as it is handed on, whatever the crate is called
+NOTES = TOP / "target" / "proved"  # a file for each program that was proved
+PARTS = ("src", "specs", "proofs")
 BEGUN = re.compile(r"rt: chose --jobs \d+ for (\w+)|(?:fn|struct|enum|impl|trait|const) (\w+)::")
 PROVED = re.compile(r"logic=proved\b")
 A_MOMENT = 1.0  # seconds; what is proved already takes less, and then nothing is told
@@ -170,9 +176,41 @@ def one_crate(telling, task, name, path, turn):
         raise CannotRun(f"{words} ended well, but made no {path.relative_to(TOP)}. It said:\n{told}")
 
 
+def note_of(name):
+    """The sums by which a program is noted: of all that its proof rests on, the toolchain's name with it, and of the program itself."""
+    rests = hashlib.sha256(attempt(["rt", "version"])[1].encode())
+    for path in [TOP / "crates.txt", TOP / "HANDLES", *(path for crate in needed(TOP, [name]) for part in PARTS
+                                                      for path in sorted((TOP / "crates" / crate / part).rglob("*")))]:
+        if path.is_file():
+            rests.update(f"{path.relative_to(TOP)} {hashlib.sha256(path.read_bytes()).hexdigest()}\n".encode())
+    return f"{rests.hexdigest()} {hashlib.sha256(binary(name).read_bytes()).hexdigest()}\n"
+
+
+def is_noted(name):
+    """Whether a program stands as it was when it was proved, and so do its sources."""
+    noted = NOTES / name
+    return binary(name).is_file() and noted.is_file() and noted.read_text() == note_of(name)
+
+
+def note(names):
+    """Notes programs that have just been proved and built."""
+    NOTES.mkdir(parents=True, exist_ok=True)
+    for name in names:
+        (NOTES / name).write_text(note_of(name))
+
+
 def prove(who, names):
-    """Proves and builds programs, with all that they stand on."""
-    have_rt(who, "run", names, binary)
+    """Proves and builds programs, with all that they stand on, where they are not noted."""
+    need("rt")
+    wanted = [name for name in names if not is_noted(name)]
+    if wanted:
+        have_rt(who, "run", wanted, binary)
+        note(wanted)
+
+
+def prove_libraries(who, names):
+    """Proves and builds libraries for the crates above, with all that they stand on."""
+    have_rt(who, "lib", names, lambda name: TOP / "crates" / name / "out" / "rlib" / "stamp")
 
 
 def prove_archive(who):

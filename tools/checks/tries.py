@@ -1,7 +1,8 @@
 """Must-fail edits tried here, so that the whole of what the prover says of them can be read.
 
-An edit is made in a copy of its crate and of those below it, in a folder of its own, and `rt check` is run there over the work that is kept
-on this machine. Where all its replacements stand in functions, it is asked for these alone, and else for the whole crate.
+The libraries below are built once, here. An edit is made in a copy of its crate and of those below it, in a folder of its own, and `rt check`
+is run there over the work that is kept on this machine. Where all its replacements stand in functions, it is asked for these alone, and else
+for the whole crate.
 """
 import collections
 import concurrent.futures
@@ -71,6 +72,13 @@ def tried(top, crate, paths, whole):
             yield path, *edits.check_log(checked(folder, [""] if whole else places), places)
             for name in files:
                 shutil.copyfile(ours / name, folder / name)
+
+
+def below(top, names):
+    """The libraries below some crates, but for those that another of them stands on."""
+    under = {name: set(crates.needed(top, [name])) - {name} for name in crates.listed(top)[0]}
+    found = set().union(*(under[name] for name in names))
+    return [name for name in crates.listed(top)[0] if name in found and not any(name in under[other] for other in found)]
 
 
 def several(path):

@@ -214,6 +214,13 @@ class Tried(EditsTest):
         self.assertIn("crates/alpha check --only one\n", calls)
         self.assertIn("crates/alpha check\n", calls)  # of a definition there is no function
 
+    def test_what_is_built_before(self):
+        self.files["crates.txt"] = "base:\nbelow: base\nother:\nalpha: below\nabove: alpha other\n"
+        self.write()
+        self.assertEqual(tries.below(self.top, ["alpha"]), ["below"])
+        self.assertEqual(tries.below(self.top, ["alpha", "above"]), ["other", "alpha"])
+        self.assertEqual(tries.below(self.top, ["base"]), [])
+
     def test_an_edit_that_cannot_be_made(self):
         self.edit(EDIT, "old:     x + 1", "old:     x + 7")
         self.assertIn("0 times, and not once", self.tries()[0][0])

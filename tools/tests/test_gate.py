@@ -8,7 +8,7 @@ import subprocess
 from tests.trees import TreeTest
 
 GATE = pathlib.Path(__file__).resolve().parents[2] / ".ci/run"
-TOOLS = ("check-contracts", "check-docs", "check-edits", "check-desk", "check-examples", "check-programs", "check-linked", "compare")
+TOOLS = ("check-contracts", "check-docs", "check-edits", "check-desk", "check-examples", "check-programs", "check-linked", "compare", "run")
 COMMANDS = ("rt", "cargo", "git", "shellcheck")
 CLOSING = "7 passed, 0 failed"
 WELL = "rt: ok; handles allowed: none; must-fail edits: 5 refused; every proof and must-fail edit was done in this run"
@@ -45,7 +45,7 @@ class GateTest(TreeTest):
         self.write()
         (self.top / ".ci").mkdir(exist_ok=True)
         shutil.copy(GATE, self.top / ".ci/run")
-        for path in (*self.top.glob("bin/*"), *self.top.glob("tools/c*")):
+        for path in (*self.top.glob("bin/*"), *self.top.glob("tools/[cr]*")):
             path.chmod(0o755)
         environment = {**os.environ, "PATH": f"{self.top}/bin:{os.environ['PATH']}", **settings}
         done = subprocess.run([self.top / ".ci/run"], stdout=subprocess.PIPE, stderr=subprocess.STDOUT, env=environment, timeout=60)
@@ -120,8 +120,13 @@ class Fails(GateTest):
                 lines = self.assertFails(f"the second program's {step}", FAULT=fault)
                 self.assertNotIn("rt ci", lines)
 
-    def test_the_last_step(self):
+    def test_the_last_steps(self):
         self.assertFails("the comparison of both programs", FAULT="compare")
+        self.assertFails("what may hide in must-fail edits of several parts", FAULT="check-edits --try --several")
+
+    def test_programs_that_are_not_there(self):
+        lines = self.assertFails("proofs, must-fail edits and programs", FAULT="run --note")
+        self.assertIn("rt ci", lines)
 
     def test_the_proofs(self):
         self.assertFails("proofs, must-fail edits and programs", FAULT="rt ci")

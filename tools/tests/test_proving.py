@@ -140,6 +140,53 @@ class Turns(TreeTest):
         self.assertEqual(heard.getvalue(), "second: another run is proving here; waiting for it\n")
 
 
+class Noted(TreeTest):
+    """Programs that were proved, by a stand-in for rt that builds one and tells that it was called."""
+
+    FILES = {
+        "crates.txt": "low:\ntext: low\n", "crates/low/src/lib.rt": "// Low.\n", "crates/low/proofs/Low.antt": "-- Low.\n",
+        "crates/text/src/main.rt": "// Text.\n", "crates/text/stdin": "",
+        "bin/rt": '#!/bin/sh\n[ "$1" = version ] && exec cat "$TOP/version"\nmkdir -p out\necho built >out/text\necho "$1" >>"$TOP/calls"\n',
+        "version": "a kit\n",
+    }
+
+    def calls(self):
+        """What rt was asked to do where the program is wanted once more."""
+        self.write()
+        (self.top / "bin/rt").chmod(0o755)
+        (self.top / "calls").write_text("")
+        environment = {"PATH": f"{self.top}/bin:{os.environ['PATH']}", "TOP": str(self.top)}
+        with mock.patch.object(proving, "TOP", self.top), mock.patch.object(proving, "NOTES", self.top / "target/proved"), \
+                mock.patch("commands.TOP", self.top), mock.patch.dict(os.environ, environment):
+            proving.prove("desk", ["text"])
+        return (self.top / "calls").read_text().split()
+
+    def test_once_is_enough(self):
+        self.assertEqual([self.calls(), self.calls()], [["run"], []])
+
+    def test_anything_that_changes(self):
+        for path in ("crates/low/src/lib.rt", "crates/low/proofs/Low.antt", "crates/text/src/main.rt", "crates.txt", "version"):
+            with self.subTest(path):
+                self.calls()
+                self.files[path] += "# more\n" if path == "crates.txt" else "// more\n"
+                self.assertEqual([self.calls(), self.calls()], [["run"], []])
+
+    def test_another_program_in_its_place(self):
+        self.calls()
+        (self.top / "crates/text/out/text").write_text("something else")
+        self.assertEqual(self.calls(), ["run"])
+
+    def test_no_program(self):
+        self.calls()
+        (self.top / "crates/text/out/text").unlink()
+        self.assertEqual(self.calls(), ["run"])
+
+    def test_what_it_does_not_rest_on(self):
+        self.calls()
+        self.files["crates/text/stdin"] = "more"
+        self.assertEqual(self.calls(), [])
+
+
 class Stopped(unittest.TestCase):
     """Somebody stops a run while rt proves."""
 
