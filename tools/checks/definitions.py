@@ -10,7 +10,8 @@ NAMED = re.compile(rf"(?:record|data) ({antt.NAME})|({antt.NAME})(?: \{{[^}}]*\}
 BLOCK = re.compile(r"module |mutual\b")
 OWN = re.compile(r"Rattle\.(\w+)\.specs\.(.+)")
 DECLARED = re.compile(r"declared\.(?:[\w.]+\.)?(\w+?)(?:\.TheVariants)?")
-OF_MODULE = re.compile(r"(?:^|[\s(){};,.])[A-Z][^\s(){}.;,]*\.$")  # what stands before a name that is taken from a module, which begins with a capital
+# What stands before a name that is taken from a module, which begins with a capital.
+OF_MODULE = re.compile(r"(?:^|[\s(){};,.])[A-Z][^\s(){}.;,]*\.$")
 
 
 @dataclasses.dataclass(frozen=True, order=True)

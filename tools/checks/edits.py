@@ -361,7 +361,8 @@ def check_line(said):
         kind, name = ("fact", early) if early else (kind, name)
     if kind == "fact":
         return name, ""
-    return "", f"refused for its shape ({name}), which shows nothing: {shown(quoted)}" if kind == "shape" else f"refused by what is not known to be a fact: {shown(quoted)}"
+    why = f"refused for its shape ({name}), which shows nothing" if kind == "shape" else "refused by what is not known to be a fact"
+    return "", f"{why}: {shown(quoted)}"
 
 
 def check_said(top, text):

@@ -19,7 +19,10 @@ BASE = {
     ("Rattle.line.specs.declared.calls.Line", "Line"), STATES,
 }
 # The library's own words by the names of the modules that declare them, from which a proof may bring them too.
-BASE |= {("Prim.Native.Nat", "ℕ"), ("mathlib.Core.Path", "◌≡◌"), ("mathlib.Core.Bool", "true"), ("mathlib.Core.List", "List"), ("lib.ListN", "length")}
+BASE |= {
+    ("Prim.Native.Nat", "ℕ"), ("mathlib.Core.Path", "◌≡◌"), ("mathlib.Core.Bool", "true"), ("mathlib.Core.List", "List"),
+    ("lib.ListN", "length"),
+}
 # What a theorem may be about, and the one premise that a promise has before its statement.
 ABOUT = ("ℕ", "List ℕ", "List Call", "Bench", "Control", "Line")
 PREMISES = ("is_control_of a ≡ true",)

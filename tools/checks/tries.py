@@ -37,8 +37,8 @@ def copied(top, crate, folder):
         if (ours / "out" / HOLDS_BUILT).is_dir():
             with contextlib.suppress(OSError, shutil.Error):  # what cannot be taken is built anew
                 shutil.copytree(ours / "out" / HOLDS_BUILT, theirs / "out" / HOLDS_BUILT, copy_function=link_or_copy)
-    listed = [line for line in (top / "crates.txt").read_text().splitlines() if (match := crates.LINE.fullmatch(line.rstrip())) and match.group(1) in names]
-    (folder / "crates.txt").write_text("\n".join(listed) + "\n")
+    lines = ((line, crates.LINE.fullmatch(line.rstrip())) for line in (top / "crates.txt").read_text().splitlines())
+    (folder / "crates.txt").write_text("".join(f"{line}\n" for line, match in lines if match and match.group(1) in names))
     if (top / "HANDLES").is_file():
         shutil.copyfile(top / "HANDLES", folder / "HANDLES")
     (folder / ".git").mkdir()
