@@ -1,59 +1,77 @@
-"""Has rt prove and build programs and the archive, and tells what is being proved and how far it is."""
+"""Has rt prove and build programs and the archive, and tells what is being proved and how far it is.
+
+`rt run` of a program proves it over the work that rt keeps, builds it, and runs it once, here on an empty input; with nothing changed
+since, it only runs it. `rt lib` does so for the archive of a static library. Both leave what they make in the crate's folder out/.
+
+`rt ci` leaves the programs there too, which it has proved with all below them, but keeps nothing from which `rt run` could go on. So a
+program is noted by the sums of its sources and of itself when it was proved, and is proved anew only where one of these has changed.
+"""
 import contextlib
 import fcntl
+import hashlib
 import os
 import queue
 import re
+import shutil
 import signal
 import subprocess
 import threading
 import time
 
 from checks.crates import needed
-from commands import TOP, CannotRun, need
+from commands import TOP, CannotRun, attempt, need
 from progress import Progress
 
-BINARIES = TOP / "target" / "bin"
-LOGS = TOP / "target" / "log"
-ARCHIVE_CRATE = "exports"
-ARCHIVE = TOP / "target" / "staticlib" / f"lib{ARCHIVE_CRATE}.a"
-PROVED = re.compile(r"rt: (\S+) proved \((\d+ s)?")
+ARCHIVE_CRATE = "exports_c"  # the static library
+ARCHIVE = TOP / "target" / "staticlib" / "libexports.a"  # as it is handed on, whatever the crate is called
+NOTES = TOP / "target" / "proved"  # a file for each program that was proved
+PARTS = ("src", "specs", "proofs")
+BEGUN = re.compile(r"rt: chose --jobs \d+ for (\w+)|(?:fn|struct|enum|impl|trait|const) (\w+)::")
+PROVED = re.compile(r"logic=proved\b")
 A_MOMENT = 1.0  # seconds; what is proved already takes less, and then nothing is told
 A_WHILE = 15  # seconds in which something is told even where no line can be written over
 LINES_SHOWN = 40  # of what rt said, where it failed
 
 
+def binary(name):
+    """The program of a crate, as rt builds it."""
+    return TOP / "crates" / name / "out" / name
+
+
 class Proving:
-    """How far one run of rt is."""
+    """How far the runs of rt for some crates are."""
 
     def __init__(self, names):
         self.wanted = needed(TOP, names)
         self.begun = time.time()
-        self.proved = []
+        self.proved = set()
+        self.now = ""  # the crate that rt proves
         self.said = []
 
     def hear(self, line):
-        """Takes a line of rt's. Gives whether it tells of a crate that was proved in this run."""
+        """Takes a line of rt's. Gives whether it tells that a crate was proved in this run."""
         self.said.append(line)
-        match = PROVED.match(line)
-        if not match:
+        match = BEGUN.match(line)
+        if match:
+            name = match.group(1) or match.group(2)
+            if name in self.wanted and name != self.now:
+                self.now = name
+                self.proved |= set(needed(TOP, [name])) - {name}  # else rt would not have come to it
+        if not PROVED.match(line) or not self.now:
             return False
-        self.proved.append(match.group(1))
-        return bool(match.group(2))
+        self.proved.add(self.now)
+        self.now = ""
+        return True
 
-    def under_way(self):
-        """The crates that rt has begun to prove in this run and not told of yet: for each it keeps what the prover says."""
-        def begun(name):
-            with contextlib.suppress(OSError):
-                return (LOGS / f"{name}.say").stat().st_mtime >= self.begun
-            return False
-        return [name for name in self.wanted if name not in self.proved and begun(name)]
+    def done(self, name):
+        """Hears that a crate and all below it are proved, whether rt said so or had nothing to do."""
+        self.proved |= set(needed(TOP, [name]))
+        self.now = ""
 
     def told(self):
         """How far it is, in words."""
         words = f"{len(self.proved)} of {len(self.wanted)} crates proved, {time.time() - self.begun:.0f} s"
-        names = ", ".join(self.under_way())
-        return f"{words}; now {names}" if names else words
+        return f"{words}; now {self.now}" if self.now else words
 
 
 @contextlib.contextmanager
@@ -93,7 +111,7 @@ def lines_of(process):
 
     def hand_on():
         """Reads until the end, which is told by an empty line."""
-        for line in process.stdout:
+        for line in process.stderr or process.stdout:
             lines.put(line)
         lines.put("")
 
@@ -109,43 +127,95 @@ def lines_of(process):
         yield line
 
 
-def follow(process, proving, progress, names):
-    """Hears all that rt says, and tells how far it is once that takes longer than a moment."""
-    announced, told_at = False, time.monotonic()
-    for line in lines_of(process):
-        proved_now = line is not None and proving.hear(line.rstrip("\n"))
-        waited = line is None and time.monotonic() - told_at > A_WHILE
-        if not announced and (proved_now or waited or line is None and proving.under_way()):
-            announced = True
-            progress.say(f"proving and building {' and '.join(names)}, which takes some minutes at first")
-        if announced and (proved_now or waited or line is None and progress.rewrites):
-            told_at = time.monotonic()
-            progress.show(proving.told())
+class Telling:
+    """Tells how far it is, once that takes longer than a moment."""
+
+    def __init__(self, progress, proving, names):
+        self.progress, self.proving, self.names = progress, proving, names
+        self.announced, self.told_at = False, time.monotonic()
+
+    def follow(self, process):
+        """Hears all that one run of rt says."""
+        for line in lines_of(process):
+            proved_now = line is not None and self.proving.hear(line.rstrip("\n"))
+            waited = line is None and time.monotonic() - self.told_at > A_WHILE
+            if not self.announced and (proved_now or waited or line is None and self.proving.now):
+                self.announced = True
+                self.progress.say(f"proving and building {' and '.join(self.names)}, which takes some minutes at first")
+            if self.announced and (proved_now or waited or line is None and self.progress.rewrites):
+                self.told_at = time.monotonic()
+                self.progress.show(self.proving.told())
 
 
 def have_rt(who, task, names, made):
-    """Has rt do a task for crates, by which files are made. who is the tool that asks for it."""
+    """Has rt do a task in the folder of each of some crates, by which files are made. who is the tool that asks for it."""
     need("rt")
     progress = Progress(who)
     with in_turn(progress) as turn, contextlib.closing(progress):
         proving = Proving(names)
-        with subprocess.Popen(["rt", task, *names], cwd=TOP, stdin=subprocess.DEVNULL, stdout=subprocess.PIPE, stderr=subprocess.STDOUT,
-                              text=True, errors="replace", start_new_session=True, pass_fds=(turn.fileno(),)) as process:
-            with stopped_with_us(process):
-                follow(process, proving, progress, names)
-    told = "\n".join(proving.said[-LINES_SHOWN:]) or "nothing"
-    if process.returncode:
-        raise CannotRun(f"'rt {task} {' '.join(names)}' failed, saying:\n{told}")
-    for path in made:
-        if not path.is_file():
-            raise CannotRun(f"'rt {task} {' '.join(names)}' ended well, but made no {path.relative_to(TOP)}. It said:\n{told}")
+        telling = Telling(progress, proving, names)
+        for name in names:
+            one_crate(telling, task, name, made(name), turn)
+            proving.done(name)
+
+
+def one_crate(telling, task, name, path, turn):
+    """Has rt do a task in a crate's folder, by which a file is made. What a program itself prints there is not heard."""
+    words, said = f"'rt {task}' in crates/{name}", telling.proving.said
+    begun = len(said)
+    spoken = {"stdout": subprocess.DEVNULL, "stderr": subprocess.PIPE} if task == "run" else {"stdout": subprocess.PIPE, "stderr": subprocess.STDOUT}
+    with subprocess.Popen(["rt", task], cwd=TOP / "crates" / name, stdin=subprocess.DEVNULL, text=True, errors="replace",
+                          start_new_session=True, pass_fds=(turn.fileno(),), **spoken) as process:
+        with stopped_with_us(process):
+            telling.follow(process)
+    told = "\n".join(said[begun:][-LINES_SHOWN:]) or "nothing"
+    ran = any(line.startswith(f"rt: running out/{name}") for line in said[begun:])  # so it is proved and built, however the run of it ended
+    if process.returncode and not ran:
+        raise CannotRun(f"{words} failed, saying:\n{told}")
+    if not path.is_file():
+        raise CannotRun(f"{words} ended well, but made no {path.relative_to(TOP)}. It said:\n{told}")
+
+
+def note_of(name):
+    """The sums by which a program is noted: of all that its proof rests on, the toolchain's name with it, and of the program itself."""
+    rests = hashlib.sha256(attempt(["rt", "version"])[1].encode())
+    for path in [TOP / "crates.txt", TOP / "HANDLES", *(path for crate in needed(TOP, [name]) for part in PARTS
+                                                      for path in sorted((TOP / "crates" / crate / part).rglob("*")))]:
+        if path.is_file():
+            rests.update(f"{path.relative_to(TOP)} {hashlib.sha256(path.read_bytes()).hexdigest()}\n".encode())
+    return f"{rests.hexdigest()} {hashlib.sha256(binary(name).read_bytes()).hexdigest()}\n"
+
+
+def is_noted(name):
+    """Whether a program stands as it was when it was proved, and so do its sources."""
+    noted = NOTES / name
+    return binary(name).is_file() and noted.is_file() and noted.read_text() == note_of(name)
+
+
+def note(names):
+    """Notes programs that have just been proved and built."""
+    NOTES.mkdir(parents=True, exist_ok=True)
+    for name in names:
+        (NOTES / name).write_text(note_of(name))
 
 
 def prove(who, names):
-    """Proves and builds programs, with all that they stand on."""
-    have_rt(who, "check", names, [BINARIES / name for name in names])
+    """Proves and builds programs, with all that they stand on, where they are not noted."""
+    need("rt")
+    wanted = [name for name in names if not is_noted(name)]
+    if wanted:
+        have_rt(who, "run", wanted, binary)
+        note(wanted)
+
+
+def prove_libraries(who, names):
+    """Proves and builds libraries for the crates above, with all that they stand on."""
+    have_rt(who, "lib", names, lambda name: TOP / "crates" / name / "out" / "rlib" / "stamp")
 
 
 def prove_archive(who):
     """Proves the calls for other languages, and builds the archive that C and Rust link."""
-    have_rt(who, "staticlib", [ARCHIVE_CRATE], [ARCHIVE])
+    made = TOP / "crates" / ARCHIVE_CRATE / "out" / f"lib{ARCHIVE_CRATE}.a"
+    have_rt(who, "lib", [ARCHIVE_CRATE], lambda name: made)
+    ARCHIVE.parent.mkdir(parents=True, exist_ok=True)
+    shutil.copyfile(made, ARCHIVE)

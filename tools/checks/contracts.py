@@ -1,23 +1,20 @@
 """Public functions and their laws: each states its whole answer, has no `requires`, and has the one law that its signature asks for.
 
 The laws stand in crates/one_answer/proofs/OneAnswer.antt, over the real contracts (`Post`, which Rattle makes of the source's clauses); the
-form that they take is defined in crates/one_answer/specs/OneAnswer.antt, and in Lent.antt beside it where a struct is lent.
+form that they take is defined in crates/one_answer/specs/OneAnswer.antt. A call of a static library has no law of its own, since no crate
+can stand on one: it has to be the call of the same name in a library, with the same clauses, so that the one law speaks of both.
 """
 import dataclasses
 import re
 
 from checks import antt, crates, fixed, products, source
-from checks.laws import BINDERS, NoForm, claim_of, fits, law_type, lends_struct, proof_of
+from checks.laws import BINDERS, NoForm, law_type, proof_of
 
 LAWS = "crates/one_answer/proofs/OneAnswer.antt"
 FORMS = "crates/one_answer/specs/OneAnswer.antt"
-LENT = "crates/one_answer/specs/Lent.antt"
-MODULE = "Rattle·one_answer·specs.specs."
+MODULE = "Rattle.one_answer.specs.OneAnswer"
 # What the laws' types are made of, by the names that they have there.
-PARTS = {
-    "OneAnswer": (MODULE + "OneAnswer", "OneAnswer"), "_beside_": (MODULE + "OneAnswer", "_beside_"),
-    "OneLent": (MODULE + "Lent", "OneLent"), "now": ("denote.Ref", "now"),
-}
+PARTS = {"OneAnswer": (MODULE, "OneAnswer"), "◌beside◌": (MODULE, "◌beside◌")}
 
 
 @dataclasses.dataclass(frozen=True)
@@ -30,7 +27,6 @@ class Wanted:
     law: str
     type: str
     proof: str = ""  # where it is known
-    claim: str = ""  # where the type has a hole for it
 
 
 def declaring_modules(readers, owner, function):
@@ -45,19 +41,24 @@ def declaring_modules(readers, owner, function):
 
 
 def reads_module(crate, readers, function):
-    """The module in which Rattle has a function's contract, read plainly where that can be."""
+    """The module in which Rattle has a function's contract, read plainly."""
     words = ()
     if function.owner:
         words = declaring_modules(readers, function.owner, function) + (function.owner,)
-    return ".".join((f"Rattle·{crate}", "proofs") + words + (function.name,) + (() if lends_struct(function) else ("Reads",)))
+    return ".".join(("Rattle", crate, "proofs") + words + (function.name, "Reads"))
 
 
-def aliases_of(crate, functions):
-    """The alias for each public function: its crate and its name, with its type where two share the name."""
+def names_of(crate, functions):
+    """The law's name for each public function: its crate and its name, with its type where two share the name."""
     names = [function.name for function in functions]
     for function in functions:
         words = [crate] + ([function.owner] if names.count(function.name) > 1 and function.owner else []) + [function.name]
-        yield "·".join(words).replace("_", "-")
+        yield "-".join(words).replace("_", "-")
+
+
+def alias_of(law):
+    """The name of a function's contract beside the law: a module has one thing under one name, and modules begin with a capital."""
+    return "".join(word[:1].upper() + word[1:] for word in law.split("-"))
 
 
 def called(function):
@@ -83,16 +84,27 @@ def read_all(top, crate):
     return readers, wrong
 
 
+def paths_of(words):
+    """The paths that the words of a `pub use` hand on under their own names, one or several of one module; none where it has another form."""
+    said = "".join(words) if "as" not in words else ""
+    match = re.fullmatch(r"((?:\w+::)+)(?:(\w+)|\{((?:\w+,)*\w+),?\})", said)
+    if not match or "self" in words:
+        return []
+    front = tuple(match.group(1).split("::")[:-1])
+    return [front + (name,) for name in (match.group(2) or match.group(3)).split(",")]
+
+
 def check_handed(top, crate, readers):
     """Yields what is wrong with how a library's functions become public. Their contracts are known by the names that lib.rt hands on, so
     another name there would have one function's law stand for another's."""
     handed = set()
     for where, reader in readers.items():
         for line, words in reader.handed:
-            path = words[::2]
-            if where.name != "lib.rt" or set(words[1::2]) != {"::"} or not all(re.fullmatch(r"\w+", word) for word in path) or "as" in path:
-                yield f"{where}:{line}: `pub use {' '.join(words)}`; a library hands things on in lib.rt, each as `pub use module::Name;`"
-            handed.add(path)
+            paths = paths_of(words)
+            if where.name != "lib.rt" or not paths:
+                yield (f"{where}:{line}: `pub use {' '.join(words)}`; a library hands things on in lib.rt, by `pub use module::Name;` or "
+                       "`pub use module::{Name, Name};`")
+            handed |= set(paths)
     for where, reader in readers.items():
         for function in reader.functions:
             if function.public and not function.owner and function.modules and function.modules + (function.name,) not in handed:
@@ -106,13 +118,13 @@ def wanted_of(top, crate):
     wrong += check_handed(top, crate, readers)
     public = [(where, function) for where, reader in readers.items() for function in reader.functions if function.public]
     wanted = []
-    for (where, function), alias in zip(public, aliases_of(crate, [function for _, function in public])):
+    for (where, function), law in zip(public, names_of(crate, [function for _, function in public])):
         place = f"{where}: {called(function)}"
         wrong += [f"{place} is public and {why}" for why in faults_of(function)]
         try:
             module = reads_module(crate, readers.values(), function)
-            kind, claim = law_type(function, alias), claim_of(function) if lends_struct(function) else ""
-            wanted.append(Wanted(place, module, alias, alias.replace("·", "-"), kind, proof_of(function), claim))
+            alias = alias_of(law)
+            wanted.append(Wanted(place, module, alias, law, law_type(function, alias), proof_of(function)))
         except NoForm as why:
             wrong.append(f"{place}: {why}")
     return wanted, wrong
@@ -154,7 +166,7 @@ def check_uses(uses, wanted):
 def needed_parts(wanted):
     """The names that the wanted laws' types are made of."""
     words = {word for law in wanted for word in re.findall(r"\w+", law.type)}
-    return [name for name in PARTS if name.strip("_") in words]
+    return [name for name in PARTS if name.strip("◌") in words]
 
 
 def check_laws(stated, wanted, brought):
@@ -168,7 +180,7 @@ def check_laws(stated, wanted, brought):
     for law in stated:
         if law.name not in by_name:
             yield f"{LAWS}:{law.line}: {law.name} is the law of no public function"
-        elif not fits(law.type, by_name[law.name].type):
+        elif law.type != by_name[law.name].type:
             yield f"{LAWS}:{law.line}: {law.name} has to be of the type `{by_name[law.name].type}`, and is of the type `{law.type}`"
         elif by_name[law.name].proof and (law.binders, law.body) != (BINDERS, by_name[law.name].proof):
             yield f"{LAWS}:{law.line}: {law.name} is shown by `{by_name[law.name].proof}`, which tools/check-contracts --write writes"
@@ -193,30 +205,81 @@ def check_programs(top):
         for where, reader in readers.items():
             yield from (f"{where}: {called(function)} is public, in a program" for function in reader.functions if function.public)
             if crate in fixed.PROGRAMS:
-                fault = fixed.program_fault(reader.tokens, fixed.PROGRAMS[crate]) if where.name == "main.rt" else "a file besides main.rt"
+                yield from check_words(crate, where, reader, fixed.PROGRAMS[crate], "main.rt")
+
+
+def body_that_calls(function, crate):
+    """The forms of a body that only hands a function's parameters to the one of its name in a crate: by its whole path, or by its name."""
+    arguments = [word for name, _ in function.parameters for word in (name, ",")][:-1]
+    call = [function.name, "(", *arguments, ")"]
+    return [["{", *front, *call, "}"] for front in ([crate, "::"], [])]
+
+
+def check_static_libraries(top):
+    """Yields what is wrong with the calls of static libraries: each is a public function of a library, by its name, its types and its clauses."""
+    there = {}
+    for crate in crates.libraries(top):
+        for reader in read_all(top, crate)[0].values():
+            for function in reader.functions:
+                if function.public and not function.owner:
+                    there.setdefault(function.name, []).append((crate, function))
+    for crate in crates.static_libraries(top):
+        readers, wrong = read_all(top, crate)
+        yield from wrong
+        for where, reader in readers.items():
+            for function in reader.functions:
+                fault = call_fault(function, there.get(function.name, []))
                 if fault:
-                    yield f"{where}: {crate} decides nothing, so it is held to its words: {fault}"
+                    yield f"{where}: {called(function)} {fault}"
+
+
+def call_fault(function, twins):
+    """Why a function of a static library is no call of one of the libraries' functions that have its name, or nothing where it is."""
+    if function.owner or not function.public:
+        return "is no call for other languages, in a crate that has nothing else"
+    form = lambda one: (one.parameters, one.answer, one.clauses, one.clause_names, [" ".join(text.split()) for text in one.stated])
+    like = [crate for crate, twin in twins if form(twin) == form(function)]
+    if not like:
+        return "is no public function of a library, with these parameters, this answer and these clauses"
+    body = [token.text for token in function.body]
+    if not any(body in body_that_calls(function, crate) for crate in like):
+        return f"does more than to call {like[0]}::{function.name} with its own parameters"
+    return ""
+
+
+def check_words(crate, where, reader, due, file):
+    """Yields what is wrong with a source that is held to its words, in the one file that its crate may have."""
+    fault = fixed.program_fault(reader.tokens, due) if where.name == file else f"a file besides {file}"
+    if fault:
+        yield f"{where}: {crate} decides nothing, so it is held to its words: {fault}"
+
+
+def check_edge(top, crate):
+    """Yields what is wrong with a library that only reads and writes."""
+    readers, wrong = read_all(top, crate)
+    yield from wrong
+    for where, reader in readers.items():
+        yield from check_words(crate, where, reader, fixed.EDGES[crate], "lib.rt")
 
 
 def all_wanted(top):
-    """The laws that all public functions need, and what is wrong with those functions."""
+    """The laws that all public functions need, and what is wrong with those functions. The libraries at the edge have none."""
     wanted, wrong = [], []
     for crate in crates.libraries(top):
+        if crate in fixed.EDGES:
+            wrong += check_edge(top, crate)
+            continue
         laws, faults = wanted_of(top, crate)
         wanted += laws
         wrong += faults
     return wanted, wrong
 
 
-def check_forms(top, wanted):
-    """Yields what is wrong with the files that define the form of the laws; the one for lent structs is there if one is lent."""
-    due = {FORMS: fixed.FORMS}
-    if (top / LENT).is_file() or "OneLent" in needed_parts(wanted):
-        due[LENT] = fixed.LENT
-    for path, words in due.items():
-        fault = fixed.definitions_fault((top / path).read_text(), words) if (top / path).is_file() else "there is no such file"
-        if fault:
-            yield f"{path}: {fault}"
+def check_forms(top):
+    """Yields what is wrong with the file that defines the form of the laws."""
+    fault = fixed.definitions_fault((top / FORMS).read_text(), fixed.FORMS) if (top / FORMS).is_file() else "there is no such file"
+    if fault:
+        yield f"{FORMS}: {fault}"
 
 
 def check(top):
@@ -225,7 +288,7 @@ def check(top):
     if wrong:
         return wrong, 0
     wanted, wrong = all_wanted(top)
-    wrong += check_forms(top, wanted)
+    wrong += check_forms(top)
     try:
         uses, stated = antt.strict_file((top / LAWS).read_text())
     except antt.Unreadable as why:
@@ -233,5 +296,6 @@ def check(top):
     wrong += check_uses(uses, wanted)
     wrong += check_laws(stated, wanted, {use.name for use in uses})
     wrong += check_programs(top)
+    wrong += check_static_libraries(top)
     wrong += products.check(top)
     return wrong, len(wanted)

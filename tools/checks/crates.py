@@ -1,11 +1,12 @@
 """The crates of the repository: those that crates.txt lists, and those that have a folder."""
 import re
 
-LINE = re.compile(r"([a-z][a-z0-9_]*):((?: [a-z][a-z0-9_]*)*)")
+LINE = re.compile(r"([a-z][a-z0-9_]*)( staticlib)?:((?: [a-z][a-z0-9_]*)*)")
 
 
 def listed(top):
-    """The crates of crates.txt in their order; an error for each line that is not `name: crates below it`, or comes twice."""
+    """The crates of crates.txt in their order; an error for each line that is not `name: crates below it`, or comes twice. (Of a
+    static library `staticlib` stands behind the name.)"""
     names, wrong = [], []
     for number, line in enumerate((top / "crates.txt").read_text().splitlines(), 1):
         if not line.strip() or line.startswith("#"):
@@ -23,7 +24,7 @@ def listed(top):
 def needed(top, names):
     """The named crates and all that they stand on, in the order of crates.txt; what is not listed there, as the kit's own, is left out."""
     lines = (LINE.fullmatch(line.rstrip()) for line in (top / "crates.txt").read_text().splitlines())
-    below = {match.group(1): match.group(2).split() for match in lines if match}
+    below = {match.group(1): match.group(3).split() for match in lines if match}
     wanted, found = list(names), set()
     while wanted:
         name = wanted.pop()
@@ -54,7 +55,7 @@ def check(top):
 
 
 def is_library(top, name):
-    """Whether a crate is a library."""
+    """Whether a crate is a library, for other crates or, a static one, for other languages."""
     return (top / "crates" / name / "src/lib.rt").is_file()
 
 
@@ -64,8 +65,14 @@ def is_program(top, name):
 
 
 def libraries(top):
-    """The listed libraries, in their order."""
-    return [name for name in listed(top)[0] if is_library(top, name)]
+    """The listed libraries that other crates can stand on, in their order."""
+    return [name for name in listed(top)[0] if is_library(top, name) and name not in static_libraries(top)]
+
+
+def static_libraries(top):
+    """The listed static libraries, in their order; no crate stands on one."""
+    lines = (LINE.fullmatch(line.rstrip()) for line in (top / "crates.txt").read_text().splitlines())
+    return [match.group(1) for match in lines if match and match.group(2)]
 
 
 def programs(top):

@@ -4,11 +4,14 @@ import re
 
 from checks import antt
 
+HOLE = "◌"  # in the name of an operator, where an argument stands
 MARKED = re.compile(r"(?:(?:pub|abbrev|unfoldable) )*")
 NAMED = re.compile(rf"(?:record|data) ({antt.NAME})|({antt.NAME})(?: \{{[^}}]*\}})? : ")
 BLOCK = re.compile(r"module |mutual\b")
-OWN = re.compile(r"Rattle·(\w+?)(?:·specs\.specs|\.specs)\.(.+)")
-DECLARED = re.compile(r"declared\.(?:[\w.]+\.)?(\w+?)(?:\.the-variants)?")
+OWN = re.compile(r"Rattle\.(\w+)\.specs\.(.+)")
+DECLARED = re.compile(r"declared\.(?:[\w.]+\.)?(\w+?)(?:\.TheVariants)?")
+# What stands before a name that is taken from a module, which begins with a capital.
+OF_MODULE = re.compile(r"(?:^|[\s(){};,.])[A-Z][^\s(){}.;,]*\.$")
 
 
 @dataclasses.dataclass(frozen=True, order=True)
@@ -77,21 +80,22 @@ def cut_out(crate, file, lines, bare, line, name, end):
 
 
 def words_in(text):
-    """The names that stand in a text by themselves, and those of a path by its module's name; a field that is read does not count."""
+    """The names that stand in a text by themselves, and those of a path by its module's name; a field that is read, as in `x.f`, does not
+    count."""
     bare, words = antt.without_comments(text), set()
     for match in re.finditer(antt.NAME, bare):
         before = bare[max(match.start() - 2, 0) : match.start()]
-        if before.endswith(".") and re.search(r"[^\s(]\.$", before) and not re.search(r"λ[^.]*\.$", bare[: match.start()]):
-            words.add("." + match.group())
-        elif not before.endswith("."):
+        if not before.endswith("."):
             words.add(match.group())
+        elif OF_MODULE.search(bare[: match.start()].rpartition("\n")[2]):
+            words.add("." + match.group())
     return words
 
 
 def stands_in(name, words):
-    """Whether a name stands in a text with these words; of `if_then_else_` each part does."""
-    parts = [part for part in name.split("_") if part]
-    return name in words or "." + name in words or ("_" in name and bool(parts) and all(part in words for part in parts))
+    """Whether a name stands in a text with these words; of `when◌then◌else◌` each part does."""
+    parts = [part for part in name.split(HOLE) if part]
+    return name in words or "." + name in words or (HOLE in name and bool(parts) and all(part in words for part in parts))
 
 
 class Definitions:

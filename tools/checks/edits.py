@@ -1,7 +1,11 @@
 """Must-fail edits: where they may edit, and that the prover refuses each for a fact and not for its shape.
 
 An edit that takes away a name which a proof uses, or changes how many arguments something takes, is refused whatever it says, and shows
-nothing. So after the proofs each edit's log is read: its first refusal has to be of a class of facts, and none of a class of shapes.
+nothing. So after the proofs what was said of each edit is read: its first refusal has to be of a class of facts. `rt ci` says of an edit
+only the first line of that; a whole log, as tools/check-edits makes by trying an edit itself, may hold no refusal of a class of shapes either.
+
+Rattle names the goals of a function by the branches of its code, and looks for a proof of each goal that no file answers. So an answer whose
+goal is gone counts for nothing in a whole log, neither as a fact nor as a shape, as long as a fact is beside it.
 
 Where the prover breaks its lines, and which of its sentences it says first, goes with the length of the file's path. So a refusal is
 taken as one line, and its sentences in any order.
@@ -13,26 +17,27 @@ import re
 from checks import antt, crates, source
 
 FOLDERS = ("src", "specs")
-PARTS = ("src", "specs", "proofs")
-CHECKED = "logic=not-proved"
+# A whole check that refused, or one of some functions alone by which fewer are proved.
+CHECKED = re.compile(r"^logic=not-proved|^only=(\d+) proved=(?!\1\b)\d+", re.M)
 
 # Refusals that only follow from another one in the same log.
 FOLLOWS = (
     r"^error: `[^`]+`: `[^`]+` was not admitted \(it has holes or undetermined implicits, or was rejected\), so this cannot be checked",
+    r"^error: \d+ declarations? that depends? on `[^`]+`, which was (?:not admitted|rejected), (?:was|were) not checked",
     r"^fn: not proved; it calls .*, which (?:is|are) not proved$",
-    r"^fn: no proof: expected `[^`]+` in \S+; it calls .*, which (?:is|are) not proved$",
+    r"^fn: no proof: (?:expected answers in \S+; )?it calls .*, which (?:is|are) not proved$",
     r"^fn: not proved$",
+    r"^gone: ",
 )
 
-# Needs that are not there, or stand in the place of others, since a call, a branch or a loop came or went: (class, pattern). A proof's
-# `..-spec` only hands its needs over, so an error of its own there is one of these too.
+# An answer to a goal that is not there, since a call, a branch or a loop came or went.
+GONE = r"has no `[^`]+` that can be named from here"
+
+# What the edit made is no definition, or states something else than what is shown: (class, pattern).
 NEEDS = (
     ("a definition that is not well formed", r"^error in specs: "),
-    ("a need that is not there", r"has no `Need-"),
-    ("a need in the place of another", r"expected type `[^`]*\bNeed-[^`]*`,? but this has type `[^`]*\bNeed-"),
-    ("needs handed over otherwise", r"^error: `[^`]+-spec`: "),
     ("a statement of another form", r"^(?!.*computed as far as they go, the two types).*as printed, the two types first differ where one has"
-                                    r" `[^`]*` \(expected\), at the start,? and the other has `(?:mathlib\.Core\.Path\._≡_|Path)`"),
+                                    r" `[^`]*` \(expected\), at the start,? and the other has `(?:mathlib\.Core\.Path\.◌≡◌|Path)`"),
 )
 
 # Refusals that any edit of the same shape would meet, whatever it says: (class, pattern).
@@ -48,7 +53,7 @@ SHAPES = (
     ("a bound of the prover", r"met a bound|step limit|took more than|limit was met|could not tell"),
     ("nothing left to rewrite", r"no occurrence"),
     ("a fact of another form", r"a dimension \(.*\) is expected here"),
-    ("no proof to look at", r"^fn: no proof(?!: expected `[^`]+` in \S+; `search` does not close )"),
+    ("no proof to look at", r"^fn: no proof(?!: expected answers in \S+; `search` did not prove )"),
 )
 
 # Refusals of a fact: (class, pattern, what it says).
@@ -56,10 +61,10 @@ FACTS = (
     ("returns", r"^note: it is not proved that what the function ensures holds when it returns",
      "what a function promises does not follow"),
     ("safety", r"^note: it is not proved that ",
-     "a sum, an index or a cast that may fail"),
+     "a sum, an index or a cast that may fail, or what a call requires"),
     ("search", r"^error: .*`search`: no proof of `",
      "a search over the tests that were made finds no proof"),
-    ("open", r"^fn: no proof: expected `[^`]+` in \S+; `search` does not close ",
+    ("open", r"^fn: no proof: expected answers in \S+; `search` did not prove ",
      "the function whose promise does not follow"),
     ("omega", r"^error: .*`omega`: the (?:goal|part `[^`]+` of the goal) does not follow from what it read\."
               r" All of that holds, and the (?:goal|part) fails, at ",
@@ -186,9 +191,14 @@ class Refusal:
 
 
 def function_of(file):
-    """The function whose proof a file is, as a log names it, or nothing for a file of laws."""
-    proof = re.search(r"/must-fail/([^/]+)/[^/]+/proofs/(.+)/Proof\.antt$", file)
-    return "::".join([proof[1], *proof[2].split("/")]) if proof else ""
+    """The function whose proof a file is, as a log names it behind its crate, or nothing for a file of laws."""
+    proof = re.search(r"(?:^|/)proofs/(.+)/(?:Answers|Invariants|Proof)\.antt$", file)
+    return "::".join(proof[1].split("/")) if proof else ""
+
+
+def without_crate(function):
+    """A function as its proof's file names it."""
+    return function.partition("::")[2] or function
 
 
 def refusals_of(log):
@@ -197,26 +207,33 @@ def refusals_of(log):
     for line in log.split("\n"):
         error = re.match(r"(\S+):\d+:\d+: error: (.*)", line) or re.match(r"(error):? ?(.*)", line)
         note = re.match(r"note: \S+:\d+:\d+: (it is not proved .*)", line)
-        item = re.match(r"(?:fn|struct|enum) ([^ ]+): (.*)", line)
+        item = re.match(r"(?:fn|struct|enum|impl) ([^ ]+): (.*)", line)
         if open_error and line.startswith("  "):
             said[-1].said += "\n" + line.strip()
             continue
         open_error = bool(error)
         if error:
-            specs = re.search(r"/must-fail/[^/]+/[^/]+/specs/", error.group(1))
-            said.append(Refusal(function_of(error.group(1)), f"error{' in specs' if specs else ''}: {error.group(2)}"))
+            said.append(refusal_in(*error.groups()))
         elif note:
             notes.append(Refusal("", "note: " + note.group(1)))
             said.append(notes[-1])
         elif item:
             for one in notes:  # a function's notes stand before it
-                one.of = item.group(1)
+                one.of = without_crate(item.group(1))
             notes.clear()
-            if item.group(2) != "proved":
-                said.append(Refusal(item.group(1), "fn: " + item.group(2)))
+            if not item.group(2).startswith("proved"):
+                said.append(Refusal(without_crate(item.group(1)), "fn: " + item.group(2)))
         elif re.search(r"\berror\b", line.partition("`")[0]) and not line.startswith((" ", "note: ", "help: ")):
             said.append(Refusal("", "error: " + line))
     return said
+
+
+def refusal_in(file, words):
+    """An error's words about a file: of a definition, of an answer whose goal is gone, or of anything else."""
+    function = function_of(file)
+    if re.search(r"(?:^|/)specs/", file):
+        return Refusal("", f"error in specs: {words}")
+    return Refusal(function, f"gone: {words}" if function and re.search(GONE, words) else f"error: {words}")
 
 
 def class_of(refusal):
@@ -286,7 +303,7 @@ def hidden(facts, places):
 
 def check_log(log, places=("",)):
     """The class of a log's first refusal, and what is wrong with the log. Of several replacements each has to be refused for a fact."""
-    if not re.search(rf"^{CHECKED}", log, re.M):
+    if not CHECKED.search(log):
         return "", ["its log does not say that the prover refused it"]
     first, wrong, facts = "", [], set()
     for refusal in refusals_of(log):
@@ -311,37 +328,52 @@ def shown(refusal):
     return re.sub(r"\s+", " ", refusal)[:300]
 
 
-def is_of(folder, tried, files):
-    """Whether the copy that was tried is the crate as it stands with the edit made, and nothing else."""
-    for part in PARTS:
-        ours = {str(path.relative_to(folder)): path for path in (folder / part).rglob("*") if path.is_file()}
-        theirs = {str(path.relative_to(tried)): path for path in (tried / part).rglob("*") if path.is_file()}
-        if set(ours) != set(theirs):
-            return False
-        for name, path in ours.items():
-            if theirs[name].read_text() != files.get(name, path.read_text()):
-                return False
-    return True
+# What rt ci says of an edit, and what of that shows nothing: (the words, why).
+SAID = re.compile(r"rt: must-fail (\w+)/([\w.-]+)\.edit: (.*)")
+REFUSED = "refused, as it must be"
+NOTHING = (
+    (f"{REFUSED} (only because a proof file names what the edit took away", "refused for its shape (a name that is not there), which shows nothing"),
+    (f"{REFUSED} (only by a limit of the prover", "refused for its shape (a bound of the prover), which shows nothing"),
+)
+LENGTH = 160  # of the refusal that it quotes, at most
+# What the first line of a refusal says, or its beginning, where the whole one would say more.
+FIRST_LINES = FACTS + (
+    ("omega", r"^error: .*`omega`: the (?:goal|part `[^`]+` of the goal) does not follow from what it read", ""),
+    ("rewrite", r"^error: .*give a proof of that as the last argument, `(?:rw|simp) ", ""),
+)
 
 
-def check_logs(top, target):
-    """What is wrong with the logs that the proofs left, and how many edits were refused by each class of fact."""
+def check_line(said):
+    """The class of what rt ci says of an edit, and what is wrong with it."""
+    for words, why in NOTHING:
+        if said.startswith(words):
+            return "", f"{why}: {shown(said.rpartition('): ')[2])}"
+    if not said.startswith(REFUSED):
+        return "", f"it was not refused; rt ci says: {shown(said)}"
+    quoted = said.removeprefix(REFUSED).removeprefix(": ")
+    if not quoted:
+        return "", "rt ci names no fact that it is refused for"
+    error, note = re.match(r"(\S+):\d+:\d+: error: (.*)", quoted), re.match(r"note: \S+:\d+:\d+: (it is not proved .*)", quoted)
+    refusal = refusal_in(*error.groups()).said if error else f"note: {note.group(1)}" if note else f"error: {quoted}"
+    kind, name = class_of(refusal)
+    if kind != "fact":
+        early = first_in(FIRST_LINES, " ".join(refusal.split())) if kind == "unknown" or len(quoted) >= LENGTH else ""
+        kind, name = ("fact", early) if early else (kind, name)
+    if kind == "fact":
+        return name, ""
+    why = f"refused for its shape ({name}), which shows nothing" if kind == "shape" else "refused by what is not known to be a fact"
+    return "", f"{why}: {shown(quoted)}"
+
+
+def check_said(top, text):
+    """What is wrong with what rt ci said of the edits, and how many were refused by each class of fact."""
     counts, wrong = collections.Counter(), []
-    found, _ = edits_of(top)
-    for path in found:
-        crate, where = path.parent.parent, path.relative_to(top)
-        tried = target / "must-fail" / crate.name / path.stem
-        if not (tried / ".log").is_file():
-            wrong.append(f"{where}: it was not tried, there is no log of it")
-            continue
-        try:
-            if not is_of(crate, tried, edited(crate, path.read_text())):
-                wrong.append(f"{where}: its log is that of another edit, or of the crate as it was")
-        except BadEdit as why:
-            wrong.append(f"{where}: {why}")
-            continue
-        first, faults = check_log((tried / ".log").read_text(errors="replace"), list(places_of(crate, path.read_text())))
-        wrong += [f"{where}: {fault}" for fault in faults]
-        if not faults:
-            counts[first] += 1
+    said = {match.group(1, 2): match.group(3) for match in map(SAID.fullmatch, text.split("\n")) if match}
+    for path in edits_of(top)[0]:
+        where, line = path.relative_to(top), said.get((path.parent.parent.name, path.stem))
+        name, fault = check_line(line) if line else ("", "it was not tried, rt ci says nothing of it")
+        if fault:
+            wrong.append(f"{where}: {fault}")
+        else:
+            counts[name] += 1
     return wrong, counts

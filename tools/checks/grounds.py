@@ -54,7 +54,7 @@ class Grounds:
         laws = {}
         for law in stated:
             named = self.definitions.named_in(law.type, uses)
-            for alias in re.findall(rf"({antt.NAME})\.(?:Post|clauses)\b", law.type):
+            for alias in re.findall(rf"({antt.NAME})\.Post\b", law.type):
                 named |= self.named_by(modules.get(alias, ""))
             laws[law.name] = (law.type, named)
         return laws

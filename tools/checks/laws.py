@@ -1,18 +1,15 @@
 """The law of one answer that a public function's signature asks for: its type, and its proof where the clauses say what is seen one by one.
 
-What a caller sees of a call: the result, or the bytes and the place of a part of his own slice; and what each lent buffer or struct holds
-afterwards, the written ones first. Rattle makes a plain reading of every contract (`Post`) but of one that lends a struct; there the law
-itself says in plain words what the one clause says, and its proof ties the two.
+What a caller sees of a call: the result, or the bytes and the place of a part of his own slice; and what each buffer or struct that was lent
+to be written (`&mut`) holds afterwards. What is lent to be read (`&`) is not among it: since Rattle's clauses speak of it by one value, `x.now`,
+no call can change it, so there is nothing left to state. Rattle makes a plain reading of every contract, `Post`, over which the law stands.
 """
 import re
 
 from checks import antt
 
-NUMBERS = {"bool"} | {f"{sign}{width}" for sign in "ui" for width in (8, 16, 32, 64, "size")}
 BINDERS = "κs a x y s t p q"
-CLAIM = "▢"  # in a law's type: what the law itself has to say
-PLAIN_CLAIM = re.compile(r"\(λ κs a r s\. .+\)")
-CLAUSE = re.compile(r"\{\s*λ (\w+)\.\s*⌜(.*)⌝\s*\}", re.S)
+CLAUSE = re.compile(r"\{\s*(.*?)\s*\}", re.S)
 
 
 class NoForm(Exception):
@@ -31,14 +28,8 @@ def is_written(kind):
     return [word for word in kind.split(" ") if not word.startswith("'")][:2] == ["&", "mut"]
 
 
-def lends_struct(function):
-    """Whether a function is lent a struct or an enum, or a row of them."""
-    words = [lent_words(kind) for _, kind in function.parameters]
-    return any([word for word in lent if word != "["][0] not in NUMBERS for lent in words if lent)
-
-
-def lent_of(function):
-    """The numbers of the lent parameters, the written ones first."""
+def written_of(function):
+    """The numbers of the parameters that are lent to be written."""
     lent = []
     for index, (name, kind) in enumerate(function.parameters):
         if "* mut" in kind or "* const" in kind:
@@ -46,76 +37,54 @@ def lent_of(function):
         if "&" in kind.split(" ") or "&&" in kind.split(" "):
             if not kind.startswith("& ") or kind.count("&") > 1:
                 raise NoForm(f"its parameter {name} lends something within another type, and no law speaks of that")
-            lent.append((not is_written(kind), index))
-    return [index for _, index in sorted(lent)]
+            lent += [index] if is_written(kind) else []
+    return lent
 
 
 def place(index):
     """The path to a parameter, by its number."""
-    return " .1" * index + " .0"
+    return ".1" * index + ".0"
 
 
 def seen_of(function):
-    """All that a caller sees of a call: each thing as a law names it, and as a clause does, where the clause calls the result r."""
-    lent = lent_of(function)
-    seen = [("r", "r")] if function.answer else []
+    """All that a caller sees of a call: each thing as a law names it, and as a clause does."""
+    lent = written_of(function)
+    seen = [("r", "result")] if function.answer else []
     if "&" in function.answer:
         words = lent_words(function.answer)
         if words[:1] != ["["] or is_written(function.answer) or function.answer.count("&") > 1:
             raise NoForm(f"it answers `{function.answer}`; there is a law only for a part of a slice that is lent to be read")
-        seen = [("now r", "now r"), ("r .ptr", "r .ptr")]
-    seen += [(f"now (s{place(index)})", f"now ({function.parameters[index][0]} .exit)") for index in lent]
+        seen = [("r.now", "result.now"), ("r.ref_ptr", "result.ref_ptr")]
+    seen += [(f"s{place(index)}.now", f"{function.parameters[index][0]}.new") for index in lent]
     if not seen:
-        raise NoForm("it answers nothing and nothing is lent to it, so nothing is seen of it")
+        raise NoForm("it answers nothing and nothing is lent to it to be written, so nothing is seen of it")
     return seen
 
 
 def law_type(function, alias):
-    """The type of a function's law, with a hole where the law itself says the claim."""
-    seen = "(λ κs r s. " + " beside ".join(term for term, _ in seen_of(function)) + ")"
-    if not lends_struct(function):
-        return f"OneAnswer {alias}.Post {seen}"
-    if function.clauses.count("ensures") != 1:
-        raise NoForm("a struct is lent to it, and there is a law only where all is said by one `ensures`")
-    return f"OneLent {alias}.ended {alias}.clauses {CLAIM} {seen}"
-
-
-def fits(kind, wanted):
-    """Whether a law's type is the wanted one; where that has a hole, with a claim in it."""
-    front, hole, back = wanted.partition(CLAIM)
-    if not hole:
-        return kind == wanted
-    claim = kind[len(front) : len(kind) - len(back)]
-    return kind == front + claim + back and len(antt.top_words(claim)) == 1 and PLAIN_CLAIM.fullmatch(claim) is not None
-
-
-def claim_of(function):
-    """What the one clause of a function says, over the arguments a, the result r and what the parameters hold at exit, s."""
-    binder, said = CLAUSE.fullmatch(function.stated[0]).groups()
-    said = re.sub(rf"(?<![\w·-]){binder}(?![\w·-])", "r", " ".join(said.split()))
-    for index, (name, _) in enumerate(function.parameters):
-        for sign, held in ((r" \.entry", "a{}"), (r" \.exit", "s{}"), ("", "(a{})")):
-            said = re.sub(rf"(?<![\w·.-]){name}(?![\w·-]){sign}(?![\w·-])", held.format(place(index)), said)
-    return f"(λ κs a r s. {said})"
+    """The type of a function's law."""
+    return f"OneAnswer {alias}.Post (λ κs r s. " + " beside ".join(term for term, _ in seen_of(function)) + ")"
 
 
 def claims_of(function):
-    """What each clause states of what, its left side with the result called r; nothing for a clause that is no one equation."""
-    for clause in function.stated:
-        match = CLAUSE.fullmatch(clause)
-        sides = match.group(2).split(" ≡ ") if match else []
-        plain = len(sides) == 2 and len(antt.split_outside(match.group(2), "×")) == 1
-        yield re.sub(rf"\b{match.group(1)}\b", "r", " ".join(sides[0].split())) if plain else ""
+    """What each clause that promises something states of what, its left side; nothing for a clause that is no one equation."""
+    for word, clause in zip(function.clauses, function.stated):
+        if word != "ensures":
+            continue
+        said = " ".join(CLAUSE.fullmatch(clause).group(1).split())
+        sides = said.split(" ≡ ")
+        plain = len(sides) == 2 and all(len(antt.split_outside(said, sign)) == 1 for sign in "×→⊎↔;")
+        yield sides[0] if plain else ""
 
 
 def proof_of(function):
     """The proof of a function's law, or nothing where the clauses do not say what is seen one by one."""
     claims = list(claims_of(function))
-    if lends_struct(function) or any(said not in claims for _, said in seen_of(function)):
+    if any(said not in claims for _, said in seen_of(function)):
         return ""
     parts = []
     for _, said in seen_of(function):
         at = claims.index(said)
-        path = " .1" * at + (" .0" if at < len(claims) - 1 else "")
-        parts.append("one-answer (p{0}) (q{0})".format(path) if path else "one-answer p q")
+        path = ".1" * at + (".0" if at < len(claims) - 1 else "")
+        parts.append(f"one_answer p{path} q{path}")
     return " and ".join(parts)

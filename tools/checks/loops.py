@@ -2,43 +2,51 @@
 
 Their loops are all that they decide themselves: what is made of the bytes, and what is said of a failure, proved functions decide."""
 
-SERIAL = r"""use libc::STDERR_FILENO;
-use libc::STDIN_FILENO;
-use libc::STDOUT_FILENO;
+SERIAL = r"""#![tactic(auto)]
+
 use line::Line;
-use serial_text::space;
-use serial_text::tell;
-use serial_text::tell_end;
+use serial_text::{space, tell, tell_end};
+use std::io::Read;
+use streams::write_all;
 use text::said;
 
+#[derive(Clone, Copy)]
 struct Turn {
     line: Line,
-    got: isize,
+    readable: bool,
+    came: bool,
     written: bool,
 }
 
-fn one_turn(before: Line) -> Turn {
+fn one_turn(rt: &HostRuntime, before: Line) -> Turn {
     let mut cut = space();
-    let got = libc::read(STDIN_FILENO, &mut cut);
-    let n = io::count(got, &cut);
+    let got = rt.stdin().read(&mut cut);
+    let readable = got.is_ok();
+    let n = got.unwrap_or(0);
     let mut text = [0u8; serial_text::TEXT];
     let told = tell(before, &cut[..n], &mut text);
     let k = told.long;
-    let written = io::write_all(STDOUT_FILENO, &text[..k]);
+    let written = write_all(&mut rt.stdout(), &text[..k]);
     let line = told.line;
-    Turn { line, got, written }
+    Turn {
+        line,
+        readable,
+        came: n > 0,
+        written,
+    }
 }
 
-fn all_turns(first: Line) -> Turn {
+fn all_turns(rt: &HostRuntime, first: Line) -> Turn {
     let mut last = Turn {
         line: first,
-        got: 1,
+        readable: true,
+        came: true,
         written: true,
     };
     let mut left = u64::MAX;
     while left > 0 {
-        last = one_turn(last.line);
-        if last.got <= 0 || !last.written {
+        last = one_turn(rt, last.line);
+        if !last.came || !last.written {
             return last;
         }
         left -= 1;
@@ -46,48 +54,47 @@ fn all_turns(first: Line) -> Turn {
     last
 }
 
-fn main() {
-    let last = all_turns(Line::fresh());
-    let ended = (last.got == 0) & last.written;
+fn main(rt: HostRuntime) {
+    let last = all_turns(&rt, Line::fresh());
+    let ended = last.readable & !last.came & last.written;
     let mut text = [0u8; serial_text::LAST];
     let k = tell_end(last.line, &mut text);
     let shown: &[u8] = &text[..k];
-    let written = io::write_all(STDOUT_FILENO, &shown[..said(ended, shown)]);
+    let written = write_all(&mut rt.stdout(), &shown[..said(ended, shown)]);
     let unread: &[u8] = b"standard input cannot be read\n";
-    io::write_all(STDERR_FILENO, &unread[..said(last.got < 0, unread)]);
+    write_all(&mut rt.stderr(), &unread[..said(!last.readable, unread)]);
     let unwritten: &[u8] = b"standard output cannot be written\n";
-    io::write_all(
-        STDERR_FILENO,
+    write_all(
+        &mut rt.stderr(),
         &unwritten[..said(!(last.written & written), unwritten)],
     );
 }
 """
 
-CUTS = r"""ghost use Prim.Native.Nat.{_≤_};
-ghost use lib.ListN.{length};
-use cuts_text::is_list;
-use cuts_text::make;
-use cuts_text::refusal;
-use libc::STDERR_FILENO;
-use libc::STDIN_FILENO;
-use libc::STDOUT_FILENO;
+CUTS = r"""#![tactic(auto)]
+
+ghost use Rattle.std.specs.Prelude.{◌≤◌, length};
+
+use cuts_text::{is_list, make, refusal};
 use line::Line;
 use replay::unread_rest;
+use streams::{is_readable, read_full, write_all};
 use text::said;
 
+#[derive(Clone, Copy)]
 struct Call {
     line: Line,
     used: usize,
     written: bool,
 }
 
-fn one_call(before: Line, rest: &[u8]) -> Call
-    ensures { λ r. ⌜ r .used ≤ length (now (rest .entry)) ⌝ }
+fn one_call(rt: &HostRuntime, before: Line, rest: &[u8]) -> Call
+    ensures { result.used ≤ length rest.now }
 {
     let mut text = [0u8; cuts_text::TEXT];
     let made = make(before, rest, &mut text);
     let k = made.long;
-    let written = io::write_all(STDOUT_FILENO, &text[..k]);
+    let written = write_all(&mut rt.stdout(), &text[..k]);
     let line = made.line;
     Call {
         line,
@@ -96,11 +103,11 @@ fn one_call(before: Line, rest: &[u8]) -> Call
     }
 }
 
-fn all_calls(list: &[u8]) -> bool {
+fn all_calls(rt: &HostRuntime, list: &[u8]) -> bool {
     let mut line = Line::fresh();
     let mut at: usize = 0;
     while at < list.len() {
-        let call = one_call(line, unread_rest(list, at));
+        let call = one_call(rt, line, unread_rest(list, at));
         line = call.line;
         if !call.written {
             return false;
@@ -113,22 +120,21 @@ fn all_calls(list: &[u8]) -> bool {
     true
 }
 
-fn main() {
-    let mut nothing = [0u8; 1];
-    let readable = libc::read(STDIN_FILENO, &mut nothing[..0]) >= 0;
+fn main(rt: HostRuntime) {
+    let readable = is_readable(&mut rt.stdin());
     let mut space = [0u8; cuts_text::INPUT + 1];
-    let n = io::read_full(STDIN_FILENO, &mut space);
+    let n = read_full(&mut rt.stdin(), &mut space);
     let input: &[u8] = &space[..n];
     let listed = is_list(input);
     let words = refusal();
     let none: &[u8] = &words;
-    let refused = io::write_all(STDOUT_FILENO, &none[..said(readable & !listed, none)]);
-    let shown = all_calls(&input[..said(readable & listed, input)]);
+    let refused = write_all(&mut rt.stdout(), &none[..said(readable & !listed, none)]);
+    let shown = all_calls(&rt, &input[..said(readable & listed, input)]);
     let unread: &[u8] = b"standard input cannot be read\n";
-    io::write_all(STDERR_FILENO, &unread[..said(!readable, unread)]);
+    write_all(&mut rt.stderr(), &unread[..said(!readable, unread)]);
     let unwritten: &[u8] = b"standard output cannot be written\n";
-    io::write_all(
-        STDERR_FILENO,
+    write_all(
+        &mut rt.stderr(),
         &unwritten[..said(!(refused & shown), unwritten)],
     );
 }

@@ -9,7 +9,7 @@ import re
 from checks import antt, fixed, markdown, parts, statements
 from checks.entries import CONTRACT, STATEMENT, THEOREM, check_refused, several
 from checks.parts import PAGE
-from checks.restated import BASE, FILE, check_contract, check_theorem, local_name
+from checks.restated import BASE, FILE, STATES, check_contract, check_theorem, local_name
 
 HEAD = ("promise", "statement", "proof", "restated as", "refused")
 STATES_FILE = "crates/promises/specs/States.antt"
@@ -33,7 +33,7 @@ def statements_of(uses, entries):
     """The names that a row's statements have in the file, and what is wrong with how they come there."""
     names, wrong = [], []
     for crate, file, name in entries:
-        module = f"Rattle·{crate}.specs.{file.replace('/', '.')}"
+        module = f"Rattle.{crate}.specs.{file.replace('/', '.')}"
         here = local_name(uses, module, name)
         names.append(here or name)
         if here is None:
@@ -106,10 +106,10 @@ def check_origins(things, uses):
     for table in markdown.tables_of((things.top / PAGE).read_text()):
         for row in table.rows if table.head == HEAD else ():
             for crate, file, name in several(STATEMENT, row.cells.get("statement", "")) or ():
-                known.add((f"Rattle·{crate}.specs.{file.replace('/', '.')}", name))
+                known.add((f"Rattle.{crate}.specs.{file.replace('/', '.')}", name))
             theorem = THEOREM.fullmatch(row.cells.get("proof", ""))
             if theorem:
-                known.add((f"Rattle·{theorem.group(1)}.proofs.{theorem.group(2).replace('/', '.')}", theorem.group(3)))
+                known.add((f"Rattle.{theorem.group(1)}.proofs.{theorem.group(2).replace('/', '.')}", theorem.group(3)))
     for use in uses:
         if not use.item:
             continue  # a contract's module: each promise says which
@@ -127,8 +127,8 @@ def statement_files(things):
             if table.head in parts.HEADS or THEOREM.fullmatch(row.cells.get("proof", "")):
                 for crate, file, _ in several(STATEMENT, row.cells.get("statement", "")) or ():
                     yield f"crates/{crate}/specs/{file}.antt"
-    for module, _ in BASE:
-        match = re.fullmatch(r"Rattle·(\w+)\.specs\.(\w+)", module)
+    for module, _ in BASE - {STATES}:  # which is held to its very words
+        match = re.fullmatch(r"Rattle\.(\w+)\.specs\.(\w+)", module)
         if match and match.group(1) in things.crates:
             yield f"crates/{match.group(1)}/specs/{match.group(2)}.antt"
 

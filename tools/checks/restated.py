@@ -7,25 +7,31 @@ import re
 from checks import antt
 
 FILE = "crates/promises/proofs/Promises.antt"
-STATES = ("Rattle·promises·specs.specs.States", "States")
-PART = r"p(?: \.\d+)*"
+STATES = ("Rattle.promises.specs.States", "States")
+PART = r"p(?:\.\d+)*"
+PRELUDE = "Rattle.std.specs.Prelude"
 # What the types are made of besides the statements of the page, each under its own name.
 BASE = {
-    ("Prim.Native.Nat", "ℕ"), ("mathlib.Core.Path", "_≡_"), ("mathlib.Core.Bool", "true"), ("mathlib.Core.List", "List"),
-    ("lib.ListN", "length"), ("denote.Ref", "now"), ("Rattle·basics.specs.Lay", "laidAt"), ("Rattle·replay.specs.Run", "runOf"),
-    ("Rattle·frames.specs.Calls", "Call"), ("Rattle·frames.specs.Calls", "afterCalls"), ("Rattle·control.specs.Write", "isControlOf"),
-    ("Rattle·control.specs.declared.bits.Control", "Control"), ("Rattle·bench.specs.declared.step.Bench", "Bench"),
-    ("Rattle·line.specs.declared.calls.Line", "Line"), STATES,
+    *((PRELUDE, name) for name in ("ℕ", "◌≡◌", "true", "List", "length")),
+    ("Rattle.basics.specs.Lay", "laid_at"), ("Rattle.replay.specs.Run", "run_of"),
+    ("Rattle.frames.specs.Calls", "Call"), ("Rattle.frames.specs.Calls", "after_calls"), ("Rattle.control.specs.Write", "is_control_of"),
+    ("Rattle.control.specs.declared.bits.Control", "Control"), ("Rattle.bench.specs.declared.step.Bench", "Bench"),
+    ("Rattle.line.specs.declared.calls.Line", "Line"), STATES,
+}
+# The library's own words by the names of the modules that declare them, from which a proof may bring them too.
+BASE |= {
+    ("Prim.Native.Nat", "ℕ"), ("mathlib.Core.Path", "◌≡◌"), ("mathlib.Core.Bool", "true"), ("mathlib.Core.List", "List"),
+    ("lib.ListN", "length"),
 }
 # What a theorem may be about, and the one premise that a promise has before its statement.
 ABOUT = ("ℕ", "List ℕ", "List Call", "Bench", "Control", "Line")
-PREMISES = ("isControlOf a ≡ true",)
+PREMISES = ("is_control_of a ≡ true",)
 # What a contract speaks of: the result, its bytes or its place, or what a lent buffer holds afterwards; and of it, by the arguments.
-GIVEN = re.compile(r"r|now r|r \.ptr|now \(s(?: \.\d+)+\)")
-ARGUMENT = r"(?:\(a(?: \.\d+)+(?: \.ptr)?\)|\(now \(a(?: \.\d+)+\)\))"
+GIVEN = re.compile(r"r|r\.now|r\.ref_ptr|s(?:\.\d+)+\.now")
+ARGUMENT = r"a(?:\.\d+)+(?:\.now|\.ref_ptr)?"
 TERM = rf"([^\s()]+)((?: {ARGUMENT})*)"
-DUE = tuple(re.compile(form) for form in (TERM, rf"length \({TERM}\)", rf"laidAt {ARGUMENT} 0 \({TERM}\)"))
-KEPT = re.compile(r"now \(a(?: \.\d+)+\)")
+DUE = tuple(re.compile(form) for form in (TERM, rf"length \({TERM}\)", rf"laid_at {ARGUMENT} 0 \({TERM}\)"))
+KEPT = re.compile(r"a(?:\.\d+)+\.now")
 
 
 def local_name(uses, module, item):
@@ -39,7 +45,7 @@ def check_conclusion(stated, names, originals):
     words = antt.top_words(conclusion)
     if not words or words[0] not in names:
         yield f"its type does not conclude with {' or '.join(names)}, but with `{conclusion}`"
-    elif any(not re.fullmatch(r"[.\w][\w·'.-]*|\(.*\)|\{.*\}", word) for word in words):
+    elif any(not re.fullmatch(r"[.\w][\w'.-]*|\(.*\)|\{.*\}", word) for word in words):
         yield f"its type concludes with more than {words[0]} and what it is about: `{conclusion}`"
     else:
         yield from check_about(left, words[1:])
@@ -76,7 +82,7 @@ def assumed(left, names):
 def check_theorem(things, uses, stated, entry, names, originals):
     """Yields what is wrong with a promise that cites a theorem."""
     crate, file, name = entry
-    module = f"Rattle·{crate}.proofs.{file.replace('/', '.')}"
+    module = f"Rattle.{crate}.proofs.{file.replace('/', '.')}"
     if not things.has_place(f"crates/{crate}/proofs/{file}.antt", name):
         yield f"no {name} in crates/{crate}/proofs/{file}.antt"
     here = local_name(uses, module, name)

@@ -17,7 +17,8 @@ TOKEN = re.compile(
       | (?P<sign>->|=>|::|&&|\|\||\.\.=|\.\.|<<|>>|[-+*/%&|^=!<>]=|[^\s\w])""",
     re.X,
 )
-ATTRIBUTE = re.compile(r"\[ repr \( \w+ \) \]|\[ no_mangle \]")
+# what marks a thing and leaves it what it is: its layout, its symbol, what is derived for it, the tactics of its proof
+ATTRIBUTE = re.compile(r"\[ repr \( \w+ \) \]|\[ unsafe \( no_mangle \) \]|\[ derive \( [\w ,:]* \) \]|!? ?\[ (?:tactic|cycle) \( [^#]* \) \]")
 QUALIFIERS = ("const", "unsafe", "async", "extern")
 OPENING = {"(": ")", "[": "]", "{": "}"}
 
@@ -213,11 +214,14 @@ class Reader:
         place, public = start, False
         while self.text(place) == "#":
             past = past_group(self.tokens, place + 1)
+            inner = self.text(place + 1) == "!"  # of the whole file or block, and so an item by itself
             words = " ".join(token.text for token in self.tokens[place + 1 : past])
             public = public or "no_mangle" in words
             if not ATTRIBUTE.fullmatch(words):
                 self.strange.append((self.tokens[place].line, f"the attribute #{words}"))
             place = past
+            if inner:
+                return place
         if self.text(place) == "pub":
             place += 1
             if self.text(place) == "(":

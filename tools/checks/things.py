@@ -10,12 +10,16 @@ from desk.reading import NotWords, read_line
 KNOWN = {
     "lo", "hi", "data", "kind",
     "too long", "end", " odd", "no room", "no call",
-    "let else", "let .. else", "#[repr(C)]", 'extern "C"', "requires", "ensures", "main", "read", "write",
-    "rt", "cargo", "rt check NAME", "rt ci", "rt fmt", "rt dev NAME", "rt dev NAME --generated DIR", "N passed, 0 failed",
-    "abbrev", "unfoldable", "unfolding", "let", "let mut", "match", "&", "&&", "eqb", "Statement", "Tie",
-    "c", "refl", "cc", "rw", "ap", "search needs", "search cases", "search cases depth 9",
+    "let else", "let .. else", "#[repr(C)]", 'extern "C"', "#![tactic(auto)]", "requires", "ensures", "result", "main", "read", "write",
+    "rt", "cargo", "rt: ok", "N passed, 0 failed", "N passed, M failed",
+    "abbrev", "unfoldable", "unfolding", "let", "let mut", "match", "&", "&mut", "&&", "eqb", "use", "ghost use", "staticlib",
+    "c", "goal", "returns", "refl", "cc", "rw", "ap", "simp", "omega", "grind", "search", "search rules", "search cases", "search cases depth 9",
+    "Answers.antt", "Invariants.antt", "proofs/F/Answers.antt", "proofs/F/Invariants.antt",
 }
-PATTERNS = (r"end [034]", r"--as \w+", r"[-#;$]", r"[0-9a-f]{16}", r"\$[0-9A-F]{2,4}", r"\d+", r"R\d{1,2}", r"B\d{1,2}", r"Need-[\w-]+", r"\.\.-spec", r"(?:c )?\.\w+(?: \.\w+)*")
+PATTERNS = (r"end [034]", r"--as \w+", r"[-#;$]", r"[0-9a-f]{16}", r"\$[0-9A-F]{2,4}", r"\d+", r"R\d{1,2}", r"B\d{1,2}", r"goal\.[\w-]+",
+            r"(?:loop-|returns-)[\w-]+", r"c?(?:\.[\w-]+)+", r"\w+\.(?:now|old|new)", r"#\[tactic\(auto, using\(.*\)\)\]")
+# What rt does, beside a crate, an option, or a word in capitals that stands for such.
+RT_TASKS = {"new", "check", "run", "test", "try", "lib", "ci", "must-fail", "fmt", "tidy", "plant", "expand", "lemma", "verdict", "doc", "version"}
 
 DESK = "./vorstelpijp"
 
@@ -134,10 +138,11 @@ class Things:
         return any(self.has_definition(crate, name) or self.has_code(crate, name) or self.has_type(crate, name) for crate in self.crates)
 
     def command_fault(self, words):
-        """Why a command's words name nothing, or nothing where they do: a tool with its options, or `rt dev` of a crate."""
+        """Why a command's words name nothing, or nothing where they do: a tool with its options, or a task of rt, of crates."""
         tool, *options = words
         if tool == "rt":
-            return "" if len(words) == 3 and words[1] == "dev" and words[2] in self.crates else f"`{' '.join(words)}` is no command"
+            good = words[1] in RT_TASKS and all(re.fullmatch(r"--[\w-]+|[A-Z]+(?:\.\.)?", word) or word in self.crates for word in words[2:])
+            return "" if good else f"`{' '.join(words)}` is no command"
         if not (self.top / tool).is_file():
             return f"there is no {tool}"
         unknown = [word for word in options if word.startswith("--") and word not in (self.top / tool).read_text()]
@@ -162,7 +167,7 @@ class Things:
             return "" if any(has(*entry.groups()) for has in there) else f"crate {entry.group(1)} has no {entry.group(2)}"
         if re.fullmatch(r"\w+(::\w+)+", quoted):
             return "" if self.has_call(quoted.split("::")) else f"no function {quoted}"
-        if re.fullmatch(r"[\w.·*-]+", quoted) and self.has_word(quoted):
+        if re.fullmatch(r"[\w.◌'*-]+", quoted) and self.has_word(quoted):
             return ""
         if "/" in quoted or "." in quoted:
             return "" if self.has_path(quoted) else f"there is no {quoted}"

@@ -1,12 +1,11 @@
 """crates/one_answer/proofs/OneAnswer.antt, written anew from the signatures: what can be worked out is, and other proofs are kept."""
-from checks import antt, contracts, fixed
+from checks import antt, contracts
 from checks.definitions import stands_in, words_in
-from checks.laws import BINDERS, CLAIM, fits
+from checks.laws import BINDERS
 
-LIB = "crates/one_answer/specs/Lib.antt"
 # What the laws are made of: their types, and the proofs that are written here.
 PARTS = contracts.PARTS | {
-    "one-answer": ("Rattle·basics.proofs.Alike", "one-answer"), "_and_": ("Rattle·one_answer·proofs.proofs.Alike", "_and_"),
+    "one_answer": ("Rattle.basics.proofs.Alike", "one_answer"), "◌and◌": ("Rattle.one_answer.proofs.Alike", "◌and◌"),
 }
 
 
@@ -24,12 +23,12 @@ def use_lines(uses, wanted, laws):
 
 def law_lines(law, there):
     """A law: its type and its clause, by what is wanted and by what is there of it."""
-    kind, clause = law.type.replace(CLAIM, law.claim), f"{law.law} = ?"
-    if there is not None and fits(there.type, law.type):
-        kind, clause = there.type, " ".join(filter(None, (law.law, there.binders, "=", there.body)))
+    clause = f"{law.law} = ?"
+    if there is not None and there.type == law.type:
+        clause = " ".join(filter(None, (law.law, there.binders, "=", there.body)))
     if law.proof:
         clause = f"{law.law} {BINDERS} = {law.proof}"
-    return ["", f"pub {law.law} : {kind}", clause]
+    return ["", f"pub {law.law} : {law.type}", clause]
 
 
 def text_of(text, wanted):
@@ -43,13 +42,9 @@ def text_of(text, wanted):
 
 
 def write(top):
-    """Writes the laws, and the definition for lent structs where one is lent for the first time. Yields what was done."""
+    """Writes the laws. Yields what was done."""
     wanted, wrong = contracts.all_wanted(top)
     yield from wrong
     text = text_of((top / contracts.LAWS).read_text(), wanted)
     (top / contracts.LAWS).write_text(text)
     yield f"{contracts.LAWS}: {len(wanted)} laws, {text.count(' = ?')} without a proof"
-    if "OneLent" in contracts.needed_parts(wanted) and not (top / contracts.LENT).is_file():
-        (top / contracts.LENT).write_text(fixed.LENT)
-        (top / LIB).write_text((top / LIB).read_text() + "pub mod Lent\n")
-        yield f"{contracts.LENT}: what a law means where a struct is lent; say so above each definition"

@@ -1,5 +1,5 @@
 """What the comparison has to know of a program: its command, how its input is made up, and how its output is read and counted."""
-from proving import BINARIES
+from proving import binary
 
 
 class NotReadable(Exception):
@@ -18,7 +18,7 @@ class Program:
     @property
     def proved(self):
         """The path of the proved program, as it is built."""
-        return BINARIES / self.name
+        return binary(self.name)
 
     def second_words(self, second):
         """The words that run the second program, built at this path, in the part of this one."""

@@ -7,7 +7,7 @@ import subprocess
 from commands import CannotRun
 from kit import environment, find_kit, running
 from programs import outcome_of, problem_of
-from proving import BINARIES, prove
+from proving import binary, prove
 from .terminal import WHO
 
 the_kit = functools.lru_cache(maxsize=None)(find_kit)
@@ -17,7 +17,7 @@ def words_for(program):
     """The words that run a proved program; it is proved and built first, where that is needed."""
     kit = the_kit()
     prove(WHO, [program])
-    return running(kit, BINARIES / program)
+    return running(kit, binary(program))
 
 
 def printed(program, given):

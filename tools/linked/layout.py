@@ -108,8 +108,8 @@ def pointer_to(each, mutable):
     return Laid(POINTER, POINTER, f"{'' if mutable else 'const '}{each.base} *", "")
 
 
-def proved_declarations(sources, crate="exports"):
+def proved_declarations(sources):
     """The structs that C sees, inner ones first, and the calls."""
     layouts = Layouts(sources)
-    calls = [layouts.call(exported) for exported in sources.exported(crate)]
+    calls = [layouts.call(exported) for exported in sources.exported()]
     return list(layouts.shapes.values()), calls

@@ -4,6 +4,7 @@ import re
 
 COMMENT = re.compile(r"//[^\n]*")
 ATTRIBUTES = r"((?:#\[[^\]]*\]\s*)*)"
+UNMANGLED = "#[unsafe(no_mangle)]"
 DECLARATION = re.compile(ATTRIBUTES + r"(?:pub(?:\([^)]*\))?\s+)?\b(struct|enum)\s+(\w+)\s*(?:\{([^{}]*)\})?")
 FIELD = re.compile(r"(?:pub(?:\([^)]*\))?\s+)?(\w+)\s*:\s*(.+)", re.S)
 IMPORT = re.compile(r"^(?:pub\s+)?use\s+([\w:]+?)(?:::\{([^}]*)\})?;", re.M)
@@ -83,15 +84,16 @@ class Sources:
         first, last = whole.split("::")[0], whole.split("::")[-1]
         return self.in_crate(self.crate_of(path) if first == "crate" else first, last)
 
-    def exported(self, crate):
-        """The calls that a crate exports to C."""
+    def exported(self):
+        """The calls that a crate exports to C; there is one crate that does."""
         found = []
         for path in self.texts:
-            if self.crate_of(path) != crate:
-                continue
             for attributes, name, parameters, result in EXPORT.findall(self.texts[path]):
-                if "#[no_mangle]" in attributes:
+                if UNMANGLED in attributes:
                     found.append(Exported(name, named_types(parameters), result.strip() or None, path))
         if not found:
-            raise Unfit(f'crates/{crate} exports no call: there is no #[no_mangle] pub extern "C" fn in it')
+            raise Unfit(f'the crates export no call: there is no {UNMANGLED} pub extern "C" fn in them')
+        exporting = sorted({self.crate_of(one.path) for one in found})
+        if len(exporting) > 1:
+            raise Unfit(f"{' and '.join(exporting)} both export calls to C, and the archive has those of one crate")
         return found

@@ -62,7 +62,7 @@ def machine_lines(kit):
 def notes(made):
     """How each side was compiled, and what the table means."""
     return [
-        "proved: rt staticlib exports (crates/exports over the proved crates)",
+        "proved: rt lib in crates/exports_c (over crates/exports and the proved crates)",
         f"Rust: {made}",
         "Times in nanoseconds, best of several. A ratio above 1: the proved code is faster than Rust.",
         "Both sides came to the same results before they were timed.",

@@ -6,9 +6,11 @@ LIB = "crates/alpha/src/lib.rt"
 LAWS = contracts.LAWS
 
 FILES = {
-    "crates.txt": "# crates\nalpha:\nlisting: alpha io libc\none_answer: alpha\n",
+    "crates.txt": "# crates\nalpha:\nlisting: alpha\none_answer: alpha\n",
     LIB: """// What is public.
-ghost use mathlib.Core.Path.{_≡_};
+#![tactic(auto)]
+
+ghost use Rattle.std.specs.Prelude.{◌≡◌};
 mod width;
 
 pub use width::Width;
@@ -16,7 +18,7 @@ pub use width::Width;
 /* a block
    pub fn hidden() */
 pub fn one(x: u8) -> u8
-    ensures { λ r. ⌜ r ≡ x ⌝ }
+    ensures { result ≡ x }
 {
     let quoted = b"pub fn not_one() {";
     let brace = b'{';
@@ -24,39 +26,40 @@ pub fn one(x: u8) -> u8
 }
 
 fn helper(x: u8) -> [u8; 2]
-    requires { ⌜ x ≤ 9 ⌝ }
+    requires { x ≤ 9 }
 {
     [x, x]
 }
 
 pub fn put(dst: &mut [u8], at: usize, src: &[u8]) -> bool
-    ensures said { λ r. ⌜ r ≡ true ⌝ }
-    ensures held { λ r. ⌜ now (dst .exit) ≡ now (dst .entry) ⌝ }
-    ensures kept { λ r. ⌜ now (src .exit) ≡ now (src .entry) ⌝ }
+    ensures said { result ≡ true }
+    ensures held { dst.new ≡ dst.old }
+    ensures long { length dst.new ≤ length src.now }
 {
     true
 }
 
 pub fn rest(batch: &[u8], taken: usize) -> &[u8]
-    ensures { λ r. ⌜ now r ≡ now (batch .entry) ⌝ }
+    ensures { result.now ≡ batch.now }
 {
     &batch[taken..]
 }
 
-#[no_mangle]
+#[unsafe(no_mangle)]
 pub extern "C" fn two_of(x: u8) -> u8
-    ensures { λ r. ⌜ r ≡ x ⌝ }
+    ensures { result ≡ x }
 {
     x
 }
 """,
-    "crates/alpha/src/width.rt": """pub enum Width {
+    "crates/alpha/src/width.rt": """#[derive(Clone, Copy)]
+pub enum Width {
     Five,
 }
 
 impl Width {
     pub fn counted(self, x: u16) -> u16
-        ensures { λ r. ⌜ r ≡ x ⌝ }
+        ensures { result ≡ x }
     {
         x
     }
@@ -65,32 +68,31 @@ impl Width {
     "crates/one_answer/src/lib.rt": "// No code.\n",
     contracts.FORMS: "-- The \"forms\".\n" + fixed.FORMS,
     LAWS: """-- One answer.
-use denote.Ref.{now}
-use Rattle·one_answer·specs.specs.OneAnswer.{OneAnswer, _beside_}
-use Rattle·basics.proofs.Alike.{one-answer}
-use Rattle·one_answer·proofs.proofs.Alike.{_and_}
-use Rattle·alpha.proofs.one.Reads as alpha·one
-use Rattle·alpha.proofs.put.Reads as alpha·put
-use Rattle·alpha.proofs.rest.Reads as alpha·rest
-use Rattle·alpha.proofs.two_of.Reads as alpha·two-of
-use Rattle·alpha.proofs.width.Width.counted.Reads as alpha·counted
+use Rattle.one_answer.specs.OneAnswer.{OneAnswer, ◌beside◌}
+use Rattle.basics.proofs.Alike.{one_answer}
+use Rattle.one_answer.proofs.Alike.{◌and◌}
+use Rattle.alpha.proofs.one.Reads as AlphaOne
+use Rattle.alpha.proofs.put.Reads as AlphaPut
+use Rattle.alpha.proofs.rest.Reads as AlphaRest
+use Rattle.alpha.proofs.two_of.Reads as AlphaTwoOf
+use Rattle.alpha.proofs.width.Width.counted.Reads as AlphaCounted
 
-pub alpha-one : OneAnswer alpha·one.Post (λ κs r s. r)
-alpha-one κs a x y s t p q = one-answer p q
+pub alpha-one : OneAnswer AlphaOne.Post (λ κs r s. r)
+alpha-one κs a x y s t p q = one_answer p q
 
-pub alpha-put : OneAnswer alpha·put.Post
-  (λ κs r s. r beside now (s .0) beside now (s .1 .1 .0))
+pub alpha-put : OneAnswer AlphaPut.Post
+  (λ κs r s. r beside s.0.now)
 alpha-put κs a x y s t p q =
-  one-answer (p .0) (q .0) and one-answer (p .1 .0) (q .1 .0) and one-answer (p .1 .1) (q .1 .1)
+  one_answer p.0 q.0 and one_answer p.1.0 q.1.0
 
-pub alpha-rest : OneAnswer alpha·rest.Post (λ κs r s. now r beside r .ptr beside now (s .0))
+pub alpha-rest : OneAnswer AlphaRest.Post (λ κs r s. r.now beside r.ref_ptr)
 alpha-rest κs a x y s t p q = (by hand)
 
-pub alpha-two-of : OneAnswer alpha·two-of.Post (λ κs r s. r)
-alpha-two-of κs a x y s t p q = one-answer p q
+pub alpha-two-of : OneAnswer AlphaTwoOf.Post (λ κs r s. r)
+alpha-two-of κs a x y s t p q = one_answer p q
 
-pub alpha-counted : OneAnswer alpha·counted.Post (λ κs r s. r)
-alpha-counted κs a x y s t p q = one-answer p q
+pub alpha-counted : OneAnswer AlphaCounted.Post (λ κs r s. r)
+alpha-counted κs a x y s t p q = one_answer p q
 """,
     "crates/listing/src/main.rt": "// if there is an input\n" + fixed.LISTING,
 }

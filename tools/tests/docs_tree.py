@@ -16,19 +16,19 @@ FILES = {
     "crates.txt": "alpha:\npromises: alpha\n",
     "tools/check-docs": "takes --all",
     "crates/alpha/src/lib.rt": """// The word ghostly stands in a comment only, as does fn ghostly().
-ghost use Rattle·alpha·specs.specs.One.{oneOf};
+ghost use Rattle.alpha.specs.One.{one_of};
 mod width;
 
 const LIMIT: u8 = 9;
 
 pub fn one(x: u8) -> u8
-    ensures place { λ r. ⌜ r ≡ oneOf x ⌝ }
+    ensures place { result ≡ one_of x }
 {
     let quoted = b"fn ghostly()";
     x
 }
 """,
-    "crates/alpha/src/width.rt": """ghost use Rattle·alpha·specs.specs.One.{countedOf};
+    "crates/alpha/src/width.rt": """ghost use Rattle.alpha.specs.One.{counted_of};
 
 pub enum Width {
     Five,
@@ -38,20 +38,20 @@ impl Width {
     const MASKS: [u8; 2] = [1, 2];
 
     pub fn counted(self, x: u16) -> u16
-        ensures { λ r. ⌜ r ≡ countedOf x ⌝ }
+        ensures { result ≡ counted_of x }
     {
         x
     }
 }
 """,
-    "crates/alpha/specs/One.antt": """-- ghostOf : ℕ stands in a comment only
-use mathlib.Core.Path.{_≡_}
+    "crates/alpha/specs/One.antt": """-- ghost_of : ℕ stands in a comment only
+use Rattle.std.specs.Prelude.{◌≡◌}
 
-abbrev pub oneOf : ℕ → ℕ
-oneOf x = x
+abbrev pub one_of : ℕ → ℕ
+one_of x = x
 
-unfoldable pub countedOf : ℕ → ℕ
-countedOf x = x
+unfoldable pub counted_of : ℕ → ℕ
+counted_of x = x
 
 pub record Ones (k l : ℕ) : Type 0 where
   -- hidden : it stands in a comment
@@ -66,20 +66,19 @@ pub record Ones (k l : ℕ) : Type 0 where
     promises.STATES_FILE: "-- What it \"means\".\n" + fixed.STATES,
     FILE: """-- The promises.
 use Prim.Native.Nat.{ℕ}
-use mathlib.Core.Path.{_≡_}
-use denote.Ref.{now}
-use Rattle·alpha.specs.One.{Ones as AlphaOnes, oneOf}
-use Rattle·alpha.proofs.Ones.{ones}
-use Rattle·alpha.proofs.one.Reads as alpha·one
-use Rattle·promises·specs.specs.States.{States}
+use Rattle.std.specs.Prelude.{◌≡◌}
+use Rattle.alpha.specs.One.{Ones as AlphaOnes, one_of}
+use Rattle.alpha.proofs.Ones.{ones}
+use Rattle.alpha.proofs.one.Reads as AlphaOne
+use Rattle.promises.specs.States.{States}
 
 pub ones-of-all :
     (k l : ℕ)
     → AlphaOnes k l
 ones-of-all = ones
 
-pub one-of-each : States alpha·one.Post (λ κs a r s. (r ≡ oneOf (a .0)) × (now (s .0) ≡ now (a .0)))
-one-of-each κs a r s p = (p .0, p .1 .0)
+pub one-of-each : States AlphaOne.Post (λ κs a r s. (r ≡ one_of a.0) × (s.0.now ≡ a.0.now))
+one-of-each κs a r s p = (p.0, p.1.0)
 """,
     "README.md": """# A thing
 
@@ -90,11 +89,11 @@ one-of-each κs a r s p = (p .0, p .1 .0)
 """,
     RULES: """# Rules
 
-An entry `alpha: oneOf` names a thing.
+An entry `alpha: one_of` names a thing.
 
 | rule | definition | code | refused |
 |---|---|---|---|
-| one | `alpha: oneOf`, `alpha: first` | `alpha: one`, `alpha: LIMIT`, `alpha: MASKS` | `alpha: two` |
+| one | `alpha: one_of`, `alpha: first` | `alpha: one`, `alpha: LIMIT`, `alpha: MASKS` | `alpha: two` |
 | none | (see crates/alpha) |  | `alpha: false` |
 
 | form | code |
@@ -103,11 +102,11 @@ An entry `alpha: oneOf` names a thing.
 """,
     PROMISES: "# Promises\n\nPlaces: `crates/alpha/specs/One.antt: Ones`; the clause `place`.\n\n" + HEAD + (
         "| one is one | `crates/alpha/specs/One.antt: Ones` | `crates/alpha/proofs/Ones.antt: ones` | `ones-of-all` | `alpha: false` |\n"
-        "| each | `crates/alpha/specs/One.antt: oneOf` | the contract of `alpha::one` | `one-of-each` | `alpha: two` |\n"
+        "| each | `crates/alpha/specs/One.antt: one_of` | the contract of `alpha::one` | `one-of-each` | `alpha: two` |\n"
     ) + PARTS + "| both | `crates/alpha/specs/One.antt: first`, `crates/alpha/specs/One.antt: second` | `alpha: false` |\n",
-    DECISIONS: "# Decisions\n\nSee `alpha/src/width.rt`, `Width::counted`, `alpha::Width`, `Width::MASKS`, `oneOf`\nand `alpha::one`.\n",
+    DECISIONS: "# Decisions\n\nSee `alpha/src/width.rt`, `Width::counted`, `alpha::Width`, `Width::MASKS`, `one_of`\nand `alpha::one`.\n",
     EVIDENCE: "# Evidence\n\n| tried | closed by |\n|---|---|\n| one | `alpha` |\n",
-    PROVING: "# Proving\n\n`Need-returns-2` of `c .before .f .ensures`; `rt dev alpha`, `tools/check-docs --all`.\n",
+    PROVING: "# Proving\n\n`goal.returns-2` of `c.before.f`; `rt ci alpha`, `rt check --only NAME`, `tools/check-docs --all`.\n",
     LISTING: f"""# Listing
 
 `./vorstelpijp explain FILE` with `--as hex`, `R0 = 63; strike` and `end 0`:

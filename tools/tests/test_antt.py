@@ -5,7 +5,7 @@ from checks import antt
 
 TEXT = '''-- commented : ℕ
 {- blocked : ℕ -}
-use mathlib.Core.Path.{_≡_}
+use Rattle.std.specs.Prelude.{◌≡◌}
 
 pub record Pair (k : ℕ)
     (l : ℕ) : Type 0 where

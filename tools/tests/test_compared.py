@@ -32,7 +32,7 @@ class Commands(unittest.TestCase):
         self.assertEqual(CUTS.second_words(TOP / "second"), [str(TOP / "second"), "--cuts"])
 
     def test_each_is_a_proved_program_of_its_own(self):
-        self.assertEqual([program.proved for program in PROGRAMS], [TOP / "target" / "bin" / name for name in NAMES])
+        self.assertEqual([program.proved for program in PROGRAMS], [TOP / "crates" / name / "out" / name for name in NAMES])
         self.assertEqual(len(set(NAMES)), len(PROGRAMS))
         self.assertLessEqual(set(NAMES), set(programs(TOP)))
 

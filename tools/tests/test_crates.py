@@ -1,5 +1,5 @@
 """What tools/check-contracts refuses of the list of crates and of the programs, on a small repository."""
-from checks import fixed
+from checks import crates, fixed
 from tests.contracts_tree import ContractsTest
 
 
@@ -14,9 +14,46 @@ class Crates(ContractsTest):
         self.files["crates.txt"] += "beta: alpha\n"
         self.assertWrong("there is no crates/beta")
 
+    def test_a_static_library(self):
+        self.files["crates.txt"] += "alpha_c staticlib: alpha\n"
+        self.files["crates/alpha_c/src/lib.rt"] = "// No code.\n"
+        self.assertRight()
+        self.assertEqual((crates.libraries(self.top), crates.static_libraries(self.top)), (["alpha", "one_answer"], ["alpha_c"]))
+        self.assertEqual(crates.needed(self.top, ["alpha_c"]), ["alpha", "alpha_c"])
+
     def test_a_crate_listed_twice(self):
         self.files["crates.txt"] += "alpha:\n"
         self.assertWrong("alpha is listed twice")
+
+
+class Streams(ContractsTest):
+    """The library by which the programs read and write has no laws, and is held to its words."""
+
+    LIB = "crates/streams/src/lib.rt"
+
+    def setUp(self):
+        super().setUp()
+        self.files["crates.txt"] += "streams:\n"
+        self.files[self.LIB] = "// What comes and goes.\n" + fixed.STREAMS
+
+    def test_its_words(self):
+        self.assertRight()
+
+    def test_other_words(self):
+        for old, new in (("Err(_) => return n", "Err(_) => return 0"), ("buf[n..]", "buf[..]"), ("to.write_all(bytes)", "to.write_all(&bytes[1..])"),
+                         ("use std::io::{Read, Write};", "use alpha::{Read, Write};"), ("ensures { result ≤ length buf.new }", "ensures { 0 ≡ 0 }")):
+            with self.subTest(new):
+                self.files[self.LIB] = fixed.STREAMS
+                self.edit(self.LIB, old, new)
+                self.assertWrong("streams decides nothing, so it is held to its words: line ")
+
+    def test_a_function_besides(self):
+        self.files[self.LIB] += "pub fn more() -> u8 {\n    1\n}\n"
+        self.assertWrong("streams decides nothing, so it is held to its words")
+
+    def test_a_file_besides(self):
+        self.files["crates/streams/src/more.rt"] = "// No code.\n"
+        self.assertWrong("crates/streams/src/more.rt: streams decides nothing, so it is held to its words: a file besides lib.rt")
 
 
 class Programs(ContractsTest):
@@ -44,21 +81,21 @@ class Programs(ContractsTest):
         self.assertMain("use text::said;", "use alpha::said;")
 
     def test_a_helper_whose_contract_says_nothing(self):
-        self.assertMain("fn main()", "fn cut(n: usize) -> usize\n    ensures { λ r. ⌜ 0 ≡ 0 ⌝ }\n{\n    if n == 2000 { 0 } else { n }\n}\n\nfn main()")
+        self.assertMain("fn main(", "fn cut(n: usize) -> usize\n    ensures { 0 ≡ 0 }\n{\n    if n == 2000 { 0 } else { n }\n}\n\nfn main(")
 
     def test_a_main_whose_contract_says_nothing(self):
-        self.assertMain("fn main() {", "fn main()\n    ensures { λ r. ⌜ 0 ≡ 0 ⌝ }\n{")
+        self.assertMain("fn main(rt: HostRuntime) {", "fn main(rt: HostRuntime)\n    ensures { 0 ≡ 0 }\n{")
 
     def test_a_file_besides(self):
         self.files["crates/listing/src/more.rt"] = "// No code.\n"
         self.assertWrong("crates/listing/src/more.rt: listing decides nothing, so it is held to its words: a file besides main.rt")
 
     def test_rooms(self):
-        self.files["crates.txt"] += "rooms: alpha io libc\n"
+        self.files["crates.txt"] += "rooms: alpha\n"
         self.files["crates/rooms/src/main.rt"] = fixed.PROGRAMS["rooms"]
         self.assertRight()
         self.files["crates/rooms/src/main.rt"] = fixed.LISTING
-        self.assertWrong("rooms decides nothing, so it is held to its words: line 9: `lister :: INPUT")
+        self.assertWrong("rooms decides nothing, so it is held to its words: line 8: `lister :: INPUT")
 
     def test_a_public_function(self):
         self.files[self.MAIN] += "pub fn offered() -> u8 {\n    1\n}\n"

@@ -17,7 +17,7 @@ from desk.terminal import Paper
 
 # It knows where the toolchain is, and proves nothing.
 RT = f"""#!/bin/sh
-case "$1" in doc) exec {shutil.which("rt")} doc ;; *) echo 'rt: text NOT PROVED'; exit 1 ;; esac
+case "$1" in doc) exec {shutil.which("rt")} doc ;; *) echo 'rt: text NOT PROVED' >&2; exit 1 ;; esac
 """
 
 
@@ -76,7 +76,7 @@ class Ends(unittest.TestCase):
             os.chmod(path, 0o755)
             status, printed, said = desk("listing", "--as", "hex", "-", path=f"{folder}:{os.environ['PATH']}", given=b"04000000")
         self.assertEqual((status, printed), (1, ""))
-        self.assertIn("'rt check listing' failed", said)
+        self.assertIn("'rt run' in crates/listing failed", said)
         self.assertIn("rt: text NOT PROVED", said)
 
     def test_an_output_that_is_full(self):

@@ -19,7 +19,7 @@ class Rules(DocsTest):
         self.assertEdit(RULES, "| `alpha: two` |", "| alpha: two |", "each in its quotes, and not alpha: two")
 
     def test_one_of_two_entries_without_its_quotes(self):
-        self.assertEdit(RULES, "`alpha: oneOf`, `alpha: first`", "`alpha: oneOf`, alpha: none", "each in its quotes")
+        self.assertEdit(RULES, "`alpha: one_of`, `alpha: first`", "`alpha: one_of`, alpha: none", "each in its quotes")
 
     def test_no_wrong_program(self):
         self.assertEdit(RULES, "| `alpha: two` |", "|  |", "under refused stands `crate: name`")
@@ -34,7 +34,7 @@ class Rules(DocsTest):
         self.assertEdit(RULES, "| `alpha: two` |", "| `alpha: two`", "a row of a table begins and ends with |")
 
     def test_a_definition_in_a_comment_only(self):
-        self.assertEdit(RULES, "`alpha: first`", "`alpha: ghostOf`", "no definition ghostOf in crate alpha")
+        self.assertEdit(RULES, "`alpha: first`", "`alpha: ghost_of`", "no definition ghost_of in crate alpha")
 
     def test_a_field_in_a_comment_only(self):
         self.assertEdit(RULES, "`alpha: first`", "`alpha: hidden`", "no definition hidden in crate alpha")
@@ -92,11 +92,12 @@ class Quotes(DocsTest):
     def test_names_that_are_none(self):
         self.assertQuote("`alpha: three`", "crate alpha has no three")
         self.assertQuote("`beta: one`", "crate beta has no one")
-        self.assertQuote("`threeOf`", "`threeOf` names nothing")
-        self.assertQuote("`crates/alpha/specs/One.antt: ghostOf`", "no ghostOf in crates/alpha/specs/One.antt")
+        self.assertQuote("`three_of`", "`three_of` names nothing")
+        self.assertQuote("`crates/alpha/specs/One.antt: ghost_of`", "no ghost_of in crates/alpha/specs/One.antt")
 
     def test_commands_that_are_none(self):
-        self.assertQuote("`rt dev beta`", "`rt dev beta` is no command")
+        self.assertQuote("`rt ci beta`", "`rt ci beta` is no command")
+        self.assertQuote("`rt dev alpha`", "`rt dev alpha` is no command")
         self.assertQuote("`rt do alpha`", "`rt do alpha` is no command")
         self.assertQuote("`tools/none --all`", "there is no tools/none")
         self.assertQuote("`tools/check-docs --none`", "tools/check-docs has no --none")
@@ -105,7 +106,7 @@ class Quotes(DocsTest):
         self.assertQuote("`alpha", "a quote that is not closed")
 
     def test_a_quote_over_two_lines(self):
-        self.assertEdit(DECISIONS, "`oneOf`\nand", "`three\nOf` and", "names nothing that is there")
+        self.assertEdit(DECISIONS, "`one_of`\nand", "`three\nOf` and", "names nothing that is there")
 
     def test_a_comment_that_is_not_seen(self):
         self.assertQuote("<!-- this -->", "a comment that a reader does not see")
@@ -136,11 +137,11 @@ class Desk(DocsTest):
 class Definitions(DocsTest):
     """What a reader has to believe stands apart from what serves private contracts."""
 
-    LONE = "-- lone\nabbrev pub loneOf : ℕ\nloneOf = 0\n"
+    LONE = "-- lone\nabbrev pub lone_of : ℕ\nlone_of = 0\n"
 
     def test_a_private_one_among_the_others(self):
         self.files["crates/alpha/specs/Two.antt"] = self.LONE
-        self.assertWrong("crates/alpha/specs/Two.antt:2: loneOf belongs in specs/private/")
+        self.assertWrong("crates/alpha/specs/Two.antt:2: lone_of belongs in specs/private/")
 
     def test_a_private_one_in_its_place(self):
         self.files["crates/alpha/specs/private/Two.antt"] = self.LONE

@@ -1,25 +1,27 @@
 """What tools/check-edits refuses, on a small repository and on logs of each kind."""
 import itertools
-import shutil
+import os
 import unittest
+from unittest import mock
 
-from checks import edits
+from checks import edits, tries
 from tests.trees import TreeTest
 
 EDIT = "crates/alpha/must-fail/wrong.edit"
 SPECS = "crates/alpha/must-fail/false.edit"
 LIB = "crates/alpha/src/lib.rt"
-WHERE = "/x/target/must-fail/alpha/wrong/proofs/one/Proof.antt:9:13: error: "
+WHERE = "./proofs/one/Answers.antt:9:13: error: "
+LAWS = "./proofs/Laws.antt:9:13: error: "
 REFUSED = "fn alpha::one: not proved\nlogic=not-proved\n"
 FACT = WHERE + "`returns`: `search`: no proof of `x ≡ y`\n" + REFUSED
 
 FILES = {
     "crates.txt": "alpha:\n",
-    LIB: "// One.\npub fn one(x: u8) -> u8\n    ensures { λ r. ⌜ r ≡ oneOf x ⌝ }\n{\n    x + 1 // one more\n}\n",
-    "crates/alpha/specs/One.antt": "-- One.\npub oneOf : ℕ → ℕ\noneOf x = x + 1\n",
+    LIB: "// One.\npub fn one(x: u8) -> u8\n    ensures { result ≡ one_of x }\n{\n    x + 1 // one more\n}\n",
+    "crates/alpha/specs/One.antt": "-- One.\npub one_of : ℕ → ℕ\none_of x = x + 1\n",
     "crates/alpha/proofs/One.antt": "-- Proofs.\n",
     EDIT: "# two more\nfile: src/lib.rt\nold:     x + 1\nnew:     x + 2\n",
-    SPECS: "# a false statement\nfile: specs/One.antt\nold: oneOf x = x + 1\nnew: oneOf x = x + 2\n",
+    SPECS: "# a false statement\nfile: specs/One.antt\nold: one_of x = x + 1\nnew: one_of x = x + 2\n",
 }
 
 
@@ -67,7 +69,7 @@ class Static(EditsTest):
         self.assertWrong("nothing of src/lib.rt but comments or white space")
 
     def test_an_edit_of_a_comment_in_a_definition(self):
-        self.edit(SPECS, "old: oneOf x = x + 1\nnew: oneOf x = x + 2", "old: -- One.\nnew: -- Two.")
+        self.edit(SPECS, "old: one_of x = x + 1\nnew: one_of x = x + 2", "old: -- One.\nnew: -- Two.")
         self.assertWrong("nothing of specs/One.antt but comments or white space")
 
     def test_an_edit_that_takes_itself_back(self):
@@ -99,59 +101,153 @@ class Static(EditsTest):
         self.assertWrong("no must-fail edit")
 
 
-class Logs(EditsTest):
-    """Each edit's log is its own."""
+class Said(EditsTest):
+    """What rt ci says of each edit."""
 
-    def tried(self, name):
-        """Makes what a trial of an edit leaves."""
-        crate, where = self.top / "crates/alpha", self.top / "target/must-fail/alpha" / name
-        for part in edits.PARTS:
-            shutil.copytree(crate / part, where / part)
-        for file, text in edits.edited(crate, (crate / "must-fail" / f"{name}.edit").read_text()).items():
-            (where / file).write_text(text)
-        (where / ".log").write_text(FACT)
-        return where
-
-    def wrong(self):
-        """What the check after the proofs finds."""
-        return edits.check_logs(self.top, self.top / "target")[0]
+    LINE = "rt: must-fail alpha/{}.edit: {}"
+    FACT = "refused, as it must be: ./proofs/one/Answers.antt:8:13: error: `returns`: `search`: no proof of `x ≡ y`"
 
     def setUp(self):
         super().setUp()
-        self.write()
-        self.where = self.tried("wrong")
-        self.tried("false")
+        self.said = {"wrong": self.FACT, "false": self.FACT}
+
+    def wrong(self):
+        """What the check finds in rt ci's output."""
+        lines = ["== alpha", "fn alpha::one: proved", *(self.LINE.format(*one) for one in self.said.items()), "2 passed, 0 failed"]
+        return edits.check_said(self.top, "\n".join(lines))[0]
+
+    def assertSaid(self, said, words):
+        """What is said of an edit is no reason that shows anything."""
+        self.said["wrong"] = said
+        self.assertWrong(f"crates/alpha/must-fail/wrong.edit: {words}")
 
     def test_the_tree(self):
         self.assertRight()
-        self.assertEqual(edits.check_logs(self.top, self.top / "target")[1], {"search": 2})
+        self.assertEqual(edits.check_said(self.top, "\n".join(self.LINE.format(*one) for one in self.said.items()))[1], {"search": 2})
 
-    def test_no_log(self):
-        (self.where / ".log").unlink()
+    def test_nothing_is_said(self):
+        del self.said["wrong"]
         self.assertWrong("wrong.edit: it was not tried")
 
-    def test_the_log_of_another_edit(self):
-        (self.where / "src/lib.rt").write_text(FILES[LIB])
-        self.assertWrong("its log is that of another edit")
+    def test_an_edit_that_was_not_refused(self):
+        self.assertSaid("NOT REFUSED: the crate is still proved with this edit", "it was not refused")
+        self.assertSaid("BAD EDIT: an 'old:' text is in src/lib.rt 0 times, and not once", "it was not refused")
+        self.assertSaid("NOT TRIED: its check was killed", "it was not refused")
 
-    def test_the_log_of_an_earlier_crate(self):
-        self.files["crates/alpha/proofs/One.antt"] = "-- Other proofs.\n"
-        self.assertWrong("its log is that of another edit")
+    def test_a_name_that_the_edit_took_away(self):
+        self.assertSaid("refused, as it must be (only because a proof file names what the edit took away, so this says little of the contract: "
+                        "change a value and keep the names): ./proofs/one/Answers.antt:8:13: error: `x` is not in scope",
+                        "refused for its shape (a name that is not there), which shows nothing: ./proofs/one/Answers.antt:8:13: error: `x` is not")
+
+    def test_a_limit_of_the_prover(self):
+        self.assertSaid("refused, as it must be (only by a limit of the prover, which gave no verdict, so this says less of the contract: choose "
+                        "a change that it refuses sooner): ./proofs/Laws.antt:8:1: error: `law`: antt ran out of the steps",
+                        "refused for its shape (a bound of the prover)")
+
+    def test_no_reason(self):
+        self.assertSaid("refused, as it must be", "rt ci names no fact that it is refused for")
+
+    def test_a_shape(self):
+        self.assertSaid("refused, as it must be: ./specs/One.antt:3:1: error: `one_of`: expected type `ℕ`, but this has type `Bool`",
+                        "refused for its shape (a definition that is not well formed)")
+        self.assertSaid("refused, as it must be: ./proofs/Laws.antt:8:1: error: `law`: this λ has 3 binders, but its type has room for only 2",
+                        "refused for its shape (another number of arguments)")
+
+    def test_what_is_not_known(self):
+        self.assertSaid("refused, as it must be: ./proofs/Laws.antt:8:1: error: `law`: the moon is blue", "refused by what is not known to be a fact")
+
+    def test_facts(self):
+        said = {
+            "note: src/lib.rt:2:1: it is not proved that what the function ensures holds when it returns (`returns-then`); the facts known there": "returns",
+            "note: src/lib.rt:2:1: it is not proved that what `two` requires holds at this call (`two-requires`)": "safety",
+            "./proofs/one/Answers.antt:7:13: error: `returns`: as printed, the two types differ only where one has `(one_of c.args.self)`": "differ",
+            "./proofs/Laws.antt:22:23: error: `law`: computed as far as they go, the two types differ only where one has `1` (expected) and the": "differ",
+            "./proofs/Laws.antt:45:53: error: `law`: `omega`: the goal does not follow from what it read. All of that holds, and the go": "omega",
+            "./proofs/Laws.antt:14:19: error: `law`: give a proof of that as the last argument, `rw L t` (`rw L ?` shows it as a hole's goal)": "rewrite",
+            "./proofs/Laws.antt:32:32: error: `law`: expected type `Within (moved_of r s)`, but this has type `Within (top_of r)`": "type",
+        }
+        for words, name in said.items():
+            with self.subTest(words):
+                self.assertEqual(edits.check_line("refused, as it must be: " + words), (name, ""))
+
+
+class Tried(EditsTest):
+    """Edits that are tried here, by a stand-in for rt that says what a file of its crate has and how it was called."""
+
+    FILES = {
+        **FILES, "crates.txt": "below:\nalpha: below\nabove: alpha\n", "crates/below/src/lib.rt": "// Below.\n", "crates/below/out/rlib/stamp": "built",
+        "crates/alpha/out/log": "not taken", "crates/above/src/lib.rt": "// Above.\n",
+        "bin/rt": "#!/bin/sh\necho \"$PWD $*\" >>\"$CALLS\"\nls ../* ../below/out/* >>\"$CALLS\"\ngrep 'x + 2' src/lib.rt >>\"$CALLS\"\ncat \"$LOG\"\n",
+        "log": FACT,
+    }
+
+    def tries(self, whole=True):
+        """Tries all edits. Gives what is wrong, how many there are of each class, and what rt was called with."""
+        self.write()
+        (self.top / "bin/rt").chmod(0o755)
+        settings = {"PATH": f"{self.top}/bin:{os.environ['PATH']}", "LOG": str(self.top / "log"), "CALLS": str(self.top / "calls")}
+        with mock.patch.dict(os.environ, settings):
+            wrong, counts = tries.check(self.top, edits.edits_of(self.top)[0], whole, lambda path, faults: None)
+        return wrong, counts, (self.top / "calls").read_text()
+
+    def test_a_fact(self):
+        wrong, counts, calls = self.tries()
+        self.assertEqual((wrong, counts), ([], {"search": 2}))
+        self.assertEqual(calls.count("    x + 2"), 1)  # the one edit's text, and taken back for the other
+
+    def test_the_folder(self):
+        _wrong, _counts, calls = self.tries()
+        self.assertIn("../below/out/rlib", calls)
+        self.assertNotIn("../above", calls)
+        self.assertNotIn("must-fail\n", calls)
+        self.assertEqual((self.top / LIB).read_text(), FILES[LIB])
+
+    def test_a_shape(self):
+        self.files["log"] = LAWS + "`law`: this λ has 3 binders, but its type has room for only 2\n" + REFUSED
+        wrong, counts, _ = self.tries()
+        self.assertEqual(len(wrong), 2)
+        self.assertIn("crates/alpha/must-fail/wrong.edit: refused for its shape", wrong[1])
+        self.assertFalse(counts)
+
+    def test_functions_alone(self):
+        _wrong, _counts, calls = self.tries(whole=False)
+        self.assertIn("crates/alpha check --only one\n", calls)
+        self.assertIn("crates/alpha check\n", calls)  # of a definition there is no function
+
+    def test_what_is_built_before(self):
+        self.files["crates.txt"] = "base:\nbelow: base\nother:\nalpha: below\nabove: alpha other\n"
+        self.write()
+        self.assertEqual(tries.below(self.top, ["alpha"]), ["below"])
+        self.assertEqual(tries.below(self.top, ["alpha", "above"]), ["other", "alpha"])
+        self.assertEqual(tries.below(self.top, ["base"]), [])
+
+    def test_an_edit_that_cannot_be_made(self):
+        self.edit(EDIT, "old:     x + 1", "old:     x + 7")
+        self.assertIn("0 times, and not once", self.tries()[0][0])
+
+
+class LogsOfChecks(unittest.TestCase):
+    """What a whole log has to say."""
 
     def test_a_log_that_says_proved(self):
-        (self.where / ".log").write_text("fn alpha::one: proved\nlogic=proved\n")
-        self.assertWrong("does not say that the prover refused it")
+        for log in ("fn alpha::one: proved\nlogic=proved\n", FACT.replace("logic=not-proved", "only=2 proved=2")):
+            self.assertIn("does not say that the prover refused it", edits.check_log(log)[1][0])
 
-    def test_a_log_of_a_shape(self):
-        (self.where / ".log").write_text(WHERE + "`one-spec`: module `tie` has no `Need-returns-2` that can be named from here\n" + REFUSED)
-        self.assertWrong("wrong.edit: refused for its shape")
+    def test_functions_alone(self):
+        self.assertEqual(edits.check_log(FACT.replace("logic=not-proved", "only=2 proved=1")), ("search", []))
+
+    def test_an_answer_whose_goal_is_gone(self):
+        gone = WHERE + "`returns-2`: `goal.returns-2`: module `Rattle.alpha.proofs.one.Goals` has no `returns-2` that can be named from here\n"
+        self.assertEqual(edits.check_log(gone + FACT), ("search", []))
+        self.assertEqual(edits.check_log(gone + REFUSED), ("", ["its log names no fact that it is refused for"]))
+        self.assertIn("refused for its shape", edits.check_log(gone.replace("one/Answers", "Laws") + FACT)[1][0])
 
 
 class Several(unittest.TestCase):
     """Of several replacements each is refused for a fact of its own."""
 
-    NOTE = "note: /x/src/lib.rt:2:1: it is not proved that what the function ensures holds when it returns (`returns`)\n"
-    OPEN = "fn alpha::{0}: no proof: expected `{0}-spec` in /x/proofs/{0}/Proof.antt; `search` does not close `returns`\n"
+    NOTE = "note: src/lib.rt:2:1: it is not proved that what the function ensures holds when it returns (`returns`)\n"
+    OPEN = "fn alpha::{0}: no proof: expected answers in ./proofs/{0}/Answers.antt; `search` did not prove `returns`\n"
 
     def assertHidden(self, log, places, what):
         """One of the replacements has no fact of its own."""
@@ -190,7 +286,7 @@ class Several(unittest.TestCase):
         self.assertHidden(self.of_two(), ["one", "", ""], "no fact is of a constant alone")
 
     def test_facts_of_laws(self):
-        law = FACT.replace("proofs/one/Proof.antt", "proofs/Laws.antt").replace(REFUSED, "")
+        law = FACT.replace("proofs/one/Answers.antt", "proofs/Laws.antt").replace(REFUSED, "")
         self.assertHidden(law + law.replace(":9:", ":19:") + FACT, ["one", ""], "no fact is of a constant alone")
 
 
@@ -199,7 +295,7 @@ class Places(EditsTest):
 
     def places(self, *old):
         """The places of replacements of these texts, in a source that has a constant, a function and one of a type."""
-        file = "const TWO: u8 = 2;\n\nfn one(x: u8) -> u8\n    ensures { λ r. ⌜ r ≡ x ⌝ }\n{\n    x + 0\n}\n\nimpl Two {\n    fn one() -> u8\n    {\n        1\n    }\n}\n"
+        file = "const TWO: u8 = 2;\n\nfn one(x: u8) -> u8\n    ensures { result ≡ x }\n{\n    x + 0\n}\n\nimpl Two {\n    fn one() -> u8\n    {\n        1\n    }\n}\n"
         self.files[LIB] = file
         self.write()
         text = "file: src/lib.rt\n" + "".join(f"old: {words}\nnew: {words}9\n" for words in old)
@@ -218,25 +314,13 @@ class Classes(unittest.TestCase):
             with self.subTest(words):
                 self.assertIn("refused for its shape", " ".join(edits.check_log(FACT.replace(REFUSED, "") + WHERE + words + "\n" + REFUSED)[1]))
 
-    def test_needs(self):
-        self.assertShape(
-            "`returns-2`: module `Rattle·alpha·proofs.proofs.one.Tie` has no `Need-returns-2` that can be named from here",
-            "`one-spec`: expected type `tie.Need-cast-x`, but this has type `tie.Need-returns`",
-            "`one-spec`: computed as far as they go, the two types differ only where one has `Unit` (expected) and the other has `Unit → Unit`",
-        )
-
-    def test_a_need_named_in_the_lines_below(self):
-        log = WHERE + "`x`: computed as far as they go, the two types differ only where one has `A` (expected) and the other has `B`\n"
-        log += "  (found)\n  expected type `tie.Need-cast-x`, but this has type `tie.Need-returns`\n" + REFUSED
-        self.assertIn("a need in the place of another", edits.check_log(log)[1][0])
-
     def test_a_definition_that_is_not_well_formed(self):
-        log = "/x/target/must-fail/alpha/wrong/specs/One.antt:3:1: error: `oneOf`: expected type `ℕ`, but this has type `Bool`\n" + REFUSED
+        log = "./specs/One.antt:3:1: error: `one_of`: expected type `ℕ`, but this has type `Bool`\n" + REFUSED
         self.assertIn("a definition that is not well formed", edits.check_log(log)[1][0])
 
     def test_names(self):
         self.assertShape(
-            "`returns`: `oneOf` is not in scope; did you mean `twoOf`?",
+            "`returns`: `one_of` is not in scope; did you mean `two_of`?",
             "`returns`: record `Controller` has no field `scan`",
             "`returns`: `c .before` has no field `add`; its type is `Given`",
             "`returns`: `Kind` is private to `alpha.Kinds` and the modules below it; to be named from here it wants `pub`",
@@ -255,12 +339,12 @@ class Classes(unittest.TestCase):
             "`returns`: computed as far as they go, the two types are `a ≡ b` (expected) and `a ≡ b → ⊥` (found)",
             "`returns-2`: a dimension (`0`, `1` or an interval variable) is expected here",
             "`returns`: as printed, the two types first differ where one has `reads.Post`\n  (expected), at the start, and the other has"
-            " `mathlib.Core.Path._≡_` (found)",
+            " `mathlib.Core.Path.◌≡◌` (found)",
         )
 
     def test_a_form_that_is_computed_to_a_value(self):
         log = WHERE + "`returns`: as printed, the two types first differ where one has `Path` (expected), at the start, and the other has"
-        log += " `mathlib.Core.Path._≡_` (found)\n  computed as far as they go, the two types differ only where one has `0` (expected)\n"
+        log += " `mathlib.Core.Path.◌≡◌` (found)\n  computed as far as they go, the two types differ only where one has `0` (expected)\n"
         self.assertEqual(edits.check_log(log + REFUSED), ("differ", []))
 
     def test_text(self):
@@ -318,16 +402,16 @@ class Classes(unittest.TestCase):
                         self.assertEqual(bool(shape), bool(wrong))
 
     def test_a_promise_that_does_not_follow(self):
-        log = "fn alpha::two: proved\nnote: /x/src/lib.rt:2:1: it is not proved that what the function ensures holds when it returns (`returns`)\n"
-        log += "fn alpha::one: no proof: expected `one-spec` in /x/proofs/one/Proof.antt; `search` does not close `returns`\nlogic=not-proved\n"
+        log = "fn alpha::two: proved\nnote: src/lib.rt:2:1: it is not proved that what the function ensures holds when it returns (`returns`)\n"
+        log += "fn alpha::one: no proof: expected answers in ./proofs/one/Answers.antt; `search` did not prove `returns`\nlogic=not-proved\n"
         self.assertEqual(edits.check_log(log), ("returns", []))
 
     def test_only_what_follows(self):
-        log = WHERE + "`one-spec`: `returns` was not admitted (it has holes or undetermined implicits, or was rejected), so this cannot be checked\n"
+        log = WHERE + "1 declaration that depends on `returns`, which was not admitted, was not checked: returns\n"
         self.assertEqual(edits.check_log(log + REFUSED), ("", ["its log names no fact that it is refused for"]))
 
     def test_what_follows_beside_a_fact(self):
-        log = "fn alpha::two: no proof: expected `two-spec` in /x/proofs/two/Proof.antt; it calls `alpha::one`, which is not proved\n"
+        log = "fn alpha::two: no proof: it calls `alpha::one`, which is not proved\n"
         self.assertEqual(edits.check_log(FACT + log), ("search", []))
 
     def test_what_is_not_known(self):

@@ -8,20 +8,22 @@ import subprocess
 from tests.trees import TreeTest
 
 GATE = pathlib.Path(__file__).resolve().parents[2] / ".ci/run"
-TOOLS = ("check-contracts", "check-docs", "check-edits", "check-desk", "check-examples", "check-programs", "check-linked", "compare")
+TOOLS = ("check-contracts", "check-docs", "check-edits", "check-desk", "check-examples", "check-programs", "check-linked", "compare", "run")
 COMMANDS = ("rt", "cargo", "git", "shellcheck")
 CLOSING = "7 passed, 0 failed"
+WELL = "rt: ok; handles allowed: none; must-fail edits: 5 refused; every proof and must-fail edit was done in this run"
 # It says its own words, and ends badly where FAULT is the beginning of them.
 STAND_IN = f"""#!/bin/sh
 said="$(basename "$0") $*"
 echo "$said"
-case "$said" in "rt ci") echo "${{LAST:-{CLOSING}}}" ;; esac
+case "$said" in "rt ci") echo "${{WELL-{WELL}}}"; echo "${{LAST:-{CLOSING}}}" ;; esac
 case "$said" in "${{FAULT:-none}}"*) exit 1 ;; esac
 """
 STEPS = (
     "the second program's formatting", "the second program's tests", "the second program's build", "the second program's lints",
-    "formatting", "shell scripts", "the public contracts", "the rules and the promises", "the tools' own tests", "what the must-fail edits edit",
-    "proofs, must-fail edits and programs", "what the must-fail edits are refused for", "the examples through the second program",
+    "shell scripts", "the public contracts", "the rules and the promises", "the tools' own tests", "what the must-fail edits edit",
+    "proofs, must-fail edits and programs", "what the must-fail edits are refused for",
+    "what may hide in must-fail edits of several parts", "the examples through the second program",
     "the examples and the desk", "the programs at their edges", "the header for C and the linked calls",
     "the comparison of both programs",
 )
@@ -43,7 +45,7 @@ class GateTest(TreeTest):
         self.write()
         (self.top / ".ci").mkdir(exist_ok=True)
         shutil.copy(GATE, self.top / ".ci/run")
-        for path in (*self.top.glob("bin/*"), *self.top.glob("tools/c*")):
+        for path in (*self.top.glob("bin/*"), *self.top.glob("tools/[cr]*")):
             path.chmod(0o755)
         environment = {**os.environ, "PATH": f"{self.top}/bin:{os.environ['PATH']}", **settings}
         done = subprocess.run([self.top / ".ci/run"], stdout=subprocess.PIPE, stderr=subprocess.STDOUT, env=environment, timeout=60)
@@ -82,6 +84,14 @@ class Passes(GateTest):
         self.assertCountEqual([line[10:] for line in table[:-1]], STEPS)
         self.assertEqual(table[-1][10:], "the whole run")
 
+    def test_the_proofs_are_asked_for_once_and_plainly(self):
+        lines, _ = self.good_run()
+        self.assertEqual([line for line in lines if line.startswith("rt ")], ["rt ci"])
+
+    def test_the_edits_are_read_by_what_was_said_of_them(self):
+        lines, _ = self.good_run()
+        self.assertTrue(any(re.fullmatch(r"check-edits --said \S+/rt-ci", line) for line in lines), lines)
+
     def test_the_second_program_is_read_before_the_proofs(self):
         lines, _ = self.good_run()
         self.assertLess(lines.index("cargo fmt --check"), lines.index("rt ci"))
@@ -110,8 +120,13 @@ class Fails(GateTest):
                 lines = self.assertFails(f"the second program's {step}", FAULT=fault)
                 self.assertNotIn("rt ci", lines)
 
-    def test_the_last_step(self):
+    def test_the_last_steps(self):
         self.assertFails("the comparison of both programs", FAULT="compare")
+        self.assertFails("what may hide in must-fail edits of several parts", FAULT="check-edits --try --several")
+
+    def test_programs_that_are_not_there(self):
+        lines = self.assertFails("proofs, must-fail edits and programs", FAULT="run --note")
+        self.assertIn("rt ci", lines)
 
     def test_the_proofs(self):
         self.assertFails("proofs, must-fail edits and programs", FAULT="rt ci")
@@ -120,6 +135,16 @@ class Fails(GateTest):
         for last in ("6 passed, 1 failed", "0 passed, 0 failed", "nothing"):
             with self.subTest(last):
                 self.assertFails("proofs, must-fail edits and programs", LAST=last)
+
+    def test_bad_must_fail_edits(self):
+        for bad in ("5 refused, 1 bad", "5 refused, 2 of them only by a limit, 12 bad", "0 refused, 7 bad"):
+            with self.subTest(bad):
+                lines = self.assertFails("proofs, must-fail edits and programs", WELL=WELL.replace("5 refused", bad))
+                self.assertIn("there are bad must-fail edits, as rt ci tells above", lines)
+
+    def test_proofs_that_do_not_say_that_all_is_well(self):
+        lines = self.assertFails("proofs, must-fail edits and programs", WELL="")
+        self.assertIn("rt ci says nothing that begins with 'rt: ok'", lines)
 
     def test_no_tests_at_all(self):
         self.files["tools/tests/test_one.py"] = ""

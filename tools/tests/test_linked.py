@@ -73,7 +73,7 @@ PLAIN_CRATES = {
     "exports/src/lib.rt": """use inner::Part;
         #[repr(C)]
         pub struct Whole { pub parts: [Part; 3], pub last: u64 }
-        #[no_mangle]
+        #[unsafe(no_mangle)]
         pub extern "C" fn turned(w: Whole, by: u32) -> Part
             ensures { anything }
         { w.parts[0] }
@@ -105,9 +105,11 @@ WRONG_SOURCES = {
     "a part of arrays": ("exports/src/lib.rt", "by: u32", "by: &[[u8; 4]]", "'[[u8; 4]]'"),
     "a part of enums": ("exports/src/lib.rt", "by: u32", "by: &[inner::Choice]", "turned: Choice"),
     "a part that is not lent": ("exports/src/lib.rt", "by: u32", "by: [u8]", "'[u8]'"),
-    "no exported call": ("exports/src/lib.rt", "#[no_mangle]", "", "exports no call"),
+    "no exported call": ("exports/src/lib.rt", "#[unsafe(no_mangle)]", "", "export no call"),
+    "two crates that export": ("inner/src/lib.rt", "mod part;", 'mod part; #[unsafe(no_mangle)] pub extern "C" fn more() { }',
+                               "exports and inner both export calls"),
     "two structs of one name": ("exports/src/lib.rt", "pub struct Unseen { pub a: u8 }",
-                                '#[repr(C)] pub struct PART { pub a: u8 } #[no_mangle] pub extern "C" fn seen(p: PART) { }',
+                                '#[repr(C)] pub struct PART { pub a: u8 } #[unsafe(no_mangle)] pub extern "C" fn seen(p: PART) { }',
                                 "would both be 'struct part'"),
 }
 

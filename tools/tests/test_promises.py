@@ -41,8 +41,8 @@ class Promises(DocsTest):
         self.assertPage("| `crates/alpha/specs/One.antt: Ones` |", "| `crates/alpha/specs/One.antt: Ones` or so |", "under statement stands")
 
     def test_a_statement_from_another_module(self):
-        self.assertFile("use Rattle·alpha.specs.One.{Ones as AlphaOnes, oneOf}", "use Rattle·alpha.proofs.Mine.{Ones as AlphaOnes, oneOf}",
-                        "does not bring Ones from Rattle·alpha.specs.One")
+        self.assertFile("use Rattle.alpha.specs.One.{Ones as AlphaOnes, one_of}", "use Rattle.alpha.proofs.Mine.{Ones as AlphaOnes, one_of}",
+                        "does not bring Ones from Rattle.alpha.specs.One")
 
     def test_another_conclusion(self):
         self.assertFile("→ AlphaOnes k l\n", "→ Unit\n", "does not conclude with AlphaOnes, but with `Unit`")
@@ -54,10 +54,10 @@ class Promises(DocsTest):
         self.assertFile("→ AlphaOnes k l\n", "→ AlphaOnes k l → AlphaOnes k l\n", "names AlphaOnes before its conclusion")
 
     def test_a_promise_that_assumes_itself_by_its_path(self):
-        self.assertFile("→ AlphaOnes k l\n", "→ Rattle·alpha.specs.One.Ones k l → AlphaOnes k l\n", "names Ones before its conclusion")
+        self.assertFile("→ AlphaOnes k l\n", "→ Rattle.alpha.specs.One.Ones k l → AlphaOnes k l\n", "names Ones before its conclusion")
 
     def test_a_statement_under_two_names(self):
-        self.assertFile("{Ones as AlphaOnes, oneOf}", "{Ones as AlphaOnes, Ones as Mine, oneOf}", "Rattle·alpha.specs.One.Ones is brought in under two names")
+        self.assertFile("{Ones as AlphaOnes, one_of}", "{Ones as AlphaOnes, Ones as Mine, one_of}", "Rattle.alpha.specs.One.Ones is brought in under two names")
 
     def test_another_theorem(self):
         self.assertFile("ones-of-all = ones", "ones-of-all = other", "has to be defined as `ones-of-all = ones`")
@@ -66,7 +66,7 @@ class Promises(DocsTest):
         self.assertFile("ones-of-all = ones", "ones-of-all k l = ones k l", "has to be defined as `ones-of-all = ones`")
 
     def test_a_theorem_from_another_module(self):
-        self.assertFile("use Rattle·alpha.proofs.Ones.{ones}", "use Rattle·alpha.proofs.Twos.{ones}", "does not bring ones from Rattle·alpha.proofs.Ones")
+        self.assertFile("use Rattle.alpha.proofs.Ones.{ones}", "use Rattle.alpha.proofs.Twos.{ones}", "does not bring ones from Rattle.alpha.proofs.Ones")
 
     def test_a_theorem_that_is_none(self):
         self.assertPage("proofs/Ones.antt: ones", "proofs/Ones.antt: twos", "no twos in crates/alpha/proofs/Ones.antt")
@@ -75,47 +75,47 @@ class Promises(DocsTest):
         self.assertPage("the contract of `alpha::one`", "the contract of `alpha::two`", "no public function alpha::two")
 
     def test_a_contract_of_another_function(self):
-        self.assertPage("the contract of `alpha::one`", "the contract of `alpha::Width::counted`", "does not bring Rattle·alpha.proofs.width.Width.counted.Reads")
+        self.assertPage("the contract of `alpha::one`", "the contract of `alpha::Width::counted`", "does not bring Rattle.alpha.proofs.width.Width.counted.Reads")
 
     def test_a_promise_without_its_contract(self):
-        self.assertFile("States alpha·one.Post (λ κs a r s.", "States Anything (λ κs a r s.", "its type has to be `States alpha·one.Post (λ κs a r s. ..)`")
+        self.assertFile("States AlphaOne.Post (λ κs a r s.", "States Anything (λ κs a r s.", "its type has to be `States AlphaOne.Post (λ κs a r s. ..)`")
 
     def test_a_promise_that_has_a_premise_more(self):
-        self.assertFile(": States alpha·one.Post", ": ⊥ → States alpha·one.Post", "its type has to be `States alpha·one.Post (λ κs a r s. ..)`")
+        self.assertFile(": States AlphaOne.Post", ": ⊥ → States AlphaOne.Post", "its type has to be `States AlphaOne.Post (λ κs a r s. ..)`")
 
     def test_another_meaning_of_states(self):
-        self.assertFile("specs.States.{States}", "specs.Other.{States}", "does not bring States from Rattle·promises·specs.specs.States")
+        self.assertFile("specs.States.{States}", "specs.Other.{States}", "does not bring States from Rattle.promises.specs.States")
 
     def test_a_contract_that_is_not_given_back(self):
-        self.assertFile("= (p .0, p .1 .0)", "= absurd s", "it has to be defined as `one-of-each κs a r s p = p`")
+        self.assertFile("= (p.0, p.1.0)", "= absurd s", "it has to be defined as `one-of-each κs a r s p = p`")
 
     def test_a_contract_that_says_something_else(self):
-        self.assertFile("(r ≡ oneOf (a .0))", "(r ≡ r)", "it does not state anything of oneOf")
+        self.assertFile("(r ≡ one_of a.0)", "(r ≡ r)", "it does not state anything of one_of")
 
     def test_a_contract_that_is_assumed(self):
-        self.assertFile("(r ≡ oneOf (a .0)) ×", "(r ≡ oneOf (a .0) → r ≡ oneOf (a .0)) ×", "which is no equation")
+        self.assertFile("(r ≡ one_of a.0) ×", "(r ≡ one_of a.0 → r ≡ one_of a.0) ×", "which is no equation")
 
     def test_a_contract_with_a_way_out(self):
-        self.assertFile("(r ≡ oneOf (a .0)) ×", "(r ≡ oneOf (a .0)) ⊎", "which is no equation")
+        self.assertFile("(r ≡ one_of a.0) ×", "(r ≡ one_of a.0) ⊎", "which is no equation")
 
     def test_a_contract_of_nothing(self):
-        self.assertFile("(r ≡ oneOf (a .0)) ×", "(oneOf (a .0) ≡ oneOf (a .0)) ×",
-                        "something of `oneOf (a .0)`, which is neither the result nor what a buffer holds afterwards")
+        self.assertFile("(r ≡ one_of a.0) ×", "(one_of a.0 ≡ one_of a.0) ×",
+                        "something of `one_of a.0`, which is neither the result nor what a buffer holds afterwards")
 
     def test_a_contract_that_only_mentions_the_definition(self):
-        self.assertFile("(r ≡ oneOf (a .0)) ×", "(r ≡ first (a .0) (oneOf (a .0))) ×", "in which no definition stands with the arguments")
+        self.assertFile("(r ≡ one_of a.0) ×", "(r ≡ first a.0 (one_of a.0)) ×", "in which no definition stands with the arguments")
 
     def test_a_contract_over_itself(self):
-        self.assertFile("(r ≡ oneOf (a .0)) ×", "(r ≡ oneOf r) ×", "in which no definition stands with the arguments")
+        self.assertFile("(r ≡ one_of a.0) ×", "(r ≡ one_of r) ×", "in which no definition stands with the arguments")
 
     def test_a_contract_with_a_fixed_argument(self):
-        self.assertFile("(r ≡ oneOf (a .0)) ×", "(r ≡ oneOf 0) ×", "in which no definition stands with the arguments")
+        self.assertFile("(r ≡ one_of a.0) ×", "(r ≡ one_of 0) ×", "in which no definition stands with the arguments")
 
     def test_a_contract_with_an_argument_twice(self):
-        self.assertFile("(r ≡ oneOf (a .0)) ×", "(r ≡ oneOf (a .0) (a .0)) ×", "in which (a .0) stands twice")
+        self.assertFile("(r ≡ one_of a.0) ×", "(r ≡ one_of a.0 a.0) ×", "in which a.0 stands twice")
 
     def test_a_contract_by_its_length_and_its_bytes(self):
-        self.edit(FILE, "(r ≡ oneOf (a .0)) ×", "(r ≡ length (oneOf (a .0))) × (now (s .1 .0) ≡ laidAt (now (a .1 .0)) 0 (oneOf (a .0))) ×")
+        self.edit(FILE, "(r ≡ one_of a.0) ×", "(r ≡ length (one_of a.0)) × (s.1.0.now ≡ laid_at a.1.0.now 0 (one_of a.0)) ×")
         self.assertRight()
 
     def test_states_that_asks_for_nothing(self):
@@ -132,7 +132,7 @@ class Promises(DocsTest):
         self.assertFile("(k l : ℕ)\n    → AlphaOnes k l\n", "(k : ℕ)\n    → AlphaOnes k k\n", "its statement has the argument k twice")
 
     def test_a_theorem_of_a_term_of_one_value(self):
-        self.assertFile("→ AlphaOnes k l\n", "→ AlphaOnes k (oneOf 0)\n", "its statement is about `(oneOf 0)`, which is not any value")
+        self.assertFile("→ AlphaOnes k l\n", "→ AlphaOnes k (one_of 0)\n", "its statement is about `(one_of 0)`, which is not any value")
 
     def test_a_theorem_that_is_not_about_what_it_binds(self):
         self.assertFile("(k l : ℕ)\n", "(k l m : ℕ)\n", "its statement is not about m, which it binds")
@@ -147,12 +147,12 @@ class Promises(DocsTest):
         self.assertFile("(k l : ℕ)\n", "{k l : ℕ}\n", "it has the premise `{k l : ℕ}`")
 
     def test_a_type_from_elsewhere(self):
-        self.assertFile("use Prim.Native.Nat.{ℕ}", "use Rattle·alpha.specs.One.{oneOf as ℕ}", "is brought in under two names")
+        self.assertFile("use Prim.Native.Nat.{ℕ}", "use Rattle.alpha.specs.One.{one_of as ℕ}", "is brought in under two names")
         self.files[FILE] = FILES[FILE]
         self.assertFile("use Prim.Native.Nat.{ℕ}", "use mathlib.Core.Empty.{Empty as ℕ}", "Empty of mathlib.Core.Empty is brought in, which the page does not name")
 
     def test_a_part_of_every_type_under_another_name(self):
-        self.assertFile("use mathlib.Core.Path.{_≡_}", "use mathlib.Core.Path.{_≡_ as _≢_}", "_≡_ is brought in under another name, _≢_")
+        self.assertFile("use Rattle.std.specs.Prelude.{◌≡◌}", "use mathlib.Core.Path.{◌≡◌ as ◌≢◌}", "◌≡◌ is brought in under another name, ◌≢◌")
 
     def test_a_part_of_no_place(self):
         self.assertPage("One.antt: second` |", "One.antt: third` |", "no third in crates/alpha/specs/One.antt")
@@ -202,7 +202,7 @@ class Statements(DocsTest):
         self.assertEdit(ONE, "      ≡ l\n", "      ≡ k\n", self.CHANGED)
 
     def test_another_equality(self):
-        self.assertEdit(ONE, "use mathlib.Core.Path.{_≡_}", "use Rattle·alpha·specs.specs.Mine.{_≡_}", self.CHANGED)
+        self.assertEdit(ONE, "use Rattle.std.specs.Prelude.{◌≡◌}", "use Rattle.alpha.specs.Mine.{◌≡◌}", self.CHANGED)
 
     def test_comments_and_white_space(self):
         self.edit(ONE, "  -- hidden : it stands in a comment\n", "\n  -- and another word\n")

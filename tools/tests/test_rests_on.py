@@ -17,10 +17,10 @@ use mathlib.Core.Bool.{Bool, true, false}
 
 -- the one or the other
 -- by a test
-infixr 5 if_then_else_
-unfoldable pub if_then_else_ : {A : Type 0} → Bool → A → A → A
-if true then x else y = x
-if false then x else y = y
+infixr 5 when◌then◌else◌
+unfoldable pub when◌then◌else◌ : {A : Type 0} → Bool → A → A → A
+when true then x else y = x
+when false then x else y = y
 
 -- three ways
 pub data Way : Type 0 where
@@ -31,65 +31,65 @@ pub data Way : Type 0 where
 abbrev pub lost : ℕ → ℕ
 lost x = x
 """,
-    "crates/beta/src/lib.rt": """ghost use Rattle·beta·specs.specs.High.{highOf};
-ghost use Rattle·beta·specs.specs.private.Small.{Small};
+    "crates/beta/src/lib.rt": """ghost use Rattle.beta.specs.High.{high_of};
+ghost use Rattle.beta.specs.private.Small.{Small};
 
 pub fn high(x: u8) -> u8
-    ensures { λ r. ⌜ r ≡ highOf x ⌝ }
+    ensures { result ≡ high_of x }
 {
     x
 }
 
 fn small(x: u8) -> u8
-    ensures { λ r. ⌜ Small x r ⌝ }
+    ensures { Small x result }
 {
     x
 }
 """,
-    HIGH: """use Rattle·alpha.specs.Choice.{if_then_else_, left}
-use Rattle·alpha.specs.declared.Pair.{Pair}
-use Rattle·beta·specs.specs.Low.{lowOf as low}
+    HIGH: """use Rattle.alpha.specs.Choice.{when◌then◌else◌, left}
+use Rattle.alpha.specs.declared.Pair.{Pair}
+use Rattle.beta.specs.Low.{low_of as low}
 
 -- a number's high part; lowest is named in a comment only
-unfoldable pub highOf : ℕ → ℕ
-highOf x = if x then low x else 0
+unfoldable pub high_of : ℕ → ℕ
+high_of x = when x then low x else 0
 
 -- a statement
 pub record High (p : Pair) : Type 0 where
-  pub same : p .unread ≡ left
+  pub same : p.unread ≡ left
 
 -- read as a field only
 abbrev pub unread : ℕ
 unread = 0
 """,
     "crates/beta/specs/Low.antt": """-- its low part
-abbrev pub lowOf : ℕ → ℕ
-lowOf x = x
+abbrev pub low_of : ℕ → ℕ
+low_of x = x
 
 -- named by nothing public
 abbrev pub lowest : ℕ
 lowest = 0
 """,
-    SMALL: """use Rattle·beta·specs.specs.High.{highOf}
+    SMALL: """use Rattle.beta.specs.High.{high_of}
 
 -- what the code tells
 pub record Small (x y : ℕ) : Type 0 where
-  pub is : y ≡ highOf x
+  pub is : y ≡ high_of x
 """,
     "crates/promises/src/lib.rt": "// No code.\n",
-    restated.FILE: """use Rattle·beta.specs.High.{High}
-use Rattle·beta.proofs.High.{high}
-use Rattle·beta.proofs.high.Reads as beta·high
-use Rattle·promises·specs.specs.States.{States}
+    restated.FILE: """use Rattle.beta.specs.High.{High}
+use Rattle.beta.proofs.High.{high}
+use Rattle.beta.proofs.high.Reads as BetaHigh
+use Rattle.promises.specs.States.{States}
 
 pub high-shown : (p : Pair) → High p
 high-shown = high
 
-pub high-given : States beta·high.Post (λ κs a r s. r ≡ r)
+pub high-given : States BetaHigh.Post (λ κs a r s. r ≡ r)
 high-given κs a r s p = p
 """,
 }
-IF = "alpha: if_then_else_"
+IF = "alpha: when◌then◌else◌"
 
 
 class GroundsTest(TreeTest):
@@ -114,30 +114,30 @@ class RestsOn(GroundsTest):
     """What stands below a name."""
 
     def test_a_definition_by_another_name_and_a_choice(self):
-        self.assertEqual(self.below("beta: highOf"), ([IF, "beta: lowOf", "beta: highOf"], set()))
+        self.assertEqual(self.below("beta: high_of"), ([IF, "beta: low_of", "beta: high_of"], set()))
 
     def test_a_constructor_stands_for_its_type(self):
         self.assertEqual(self.below("high-shown"), (["alpha: Way", "beta: High"], {CodeType("alpha", "Pair")}))
 
     def test_a_contract(self):
-        self.assertEqual(self.below("beta::high"), self.below("beta: highOf"))
+        self.assertEqual(self.below("beta::high"), self.below("beta: high_of"))
 
     def test_a_promise_that_is_a_contract(self):
         self.assertEqual(self.below("high-given"), self.below("beta::high"))
 
     def test_the_comment_and_the_text(self):
-        one = self.grounds().definitions.find("alpha", "if_then_else_")
+        one = self.grounds().definitions.find("alpha", "when◌then◌else◌")
         self.assertEqual(one.comment, "-- the one or the other\n-- by a test")
-        self.assertEqual(one.text.split("\n")[0], "infixr 5 if_then_else_")
-        self.assertTrue(one.text.endswith("if false then x else y = y"))
+        self.assertEqual(one.text.split("\n")[0], "infixr 5 when◌then◌else◌")
+        self.assertTrue(one.text.endswith("when false then x else y = y"))
 
     def test_names_without_a_mark_with_a_level_and_in_a_block(self):
-        self.edit(HIGH, "highOf x = if x then low x else 0", "highOf x = plain (inner x)\n\nplain {ℓ} : ℕ → ℕ\nplain x = low x\n\n"
-                  "-- both\nmodule _ (y : ℕ) where\n  outer : ℕ\n  outer = 0\n\n  inner : ℕ → ℕ\n  inner x = if x then y else 0")
-        self.assertEqual(self.below("beta: highOf")[0], [IF, "beta: lowOf", "beta: highOf", "beta: plain", "beta: outer"])
+        self.edit(HIGH, "high_of x = when x then low x else 0", "high_of x = plain (inner x)\n\nplain {ℓ} : ℕ → ℕ\nplain x = low x\n\n"
+                  "-- both\nmodule _ (y : ℕ) where\n  outer : ℕ\n  outer = 0\n\n  inner : ℕ → ℕ\n  inner x = when x then y else 0")
+        self.assertEqual(self.below("beta: high_of")[0], [IF, "beta: low_of", "beta: high_of", "beta: plain", "beta: outer"])
 
     def test_names_that_are_none(self):
-        for name in ("low-given", "beta::small", "beta: none", "gamma: one", "highOf"):
+        for name in ("low-given", "beta::small", "beta: none", "gamma: one", "high_of"):
             with self.subTest(name), self.assertRaises(Unknown):
                 self.grounds().find(name)
 
@@ -146,15 +146,17 @@ class RestsOn(GroundsTest):
                          ["alpha: lost", "beta: lowest", "beta: unread", "beta: Small"])
 
     def test_what_cannot_be_read(self):
-        self.edit(HIGH, "use Rattle·alpha.specs.Choice.{if_then_else_, left}", "use Rattle·alpha.specs.Choice.*")
+        self.edit(HIGH, "use Rattle.alpha.specs.Choice.{when◌then◌else◌, left}", "use Rattle.alpha.specs.Choice.*")
         with self.assertRaisesRegex(antt.Unreadable, "crates/beta/specs/High.antt: line 1"):
             self.grounds()
 
     def test_words(self):
         self.assertEqual(words_in("f x .y = (λ a b. c) -- d"), {"f", "x", "=", "λ", "a", "b", "c"})
-        self.assertTrue(stands_in("_then_", {"then"}))
-        self.assertFalse(stands_in("if_then_else_", {"then", "else"}))
-        self.assertEqual(words_in("m.f x"), {"m", ".f", "x"})
+        self.assertTrue(stands_in("◌then◌", {"then"}))
+        self.assertFalse(stands_in("when◌then◌else◌", {"then", "else"}))
+        self.assertEqual(words_in("M.f x (N.M.g)"), {"M", ".f", "x", "N", ".M", ".g"})
+        self.assertEqual(words_in("m.f (h x).g s.1.0.now"), {"m", "h", "x", "s"})
+        self.assertFalse(stands_in("one_of", {"one", "of"}))
 
 
 class Places(GroundsTest):
@@ -177,6 +179,6 @@ class Places(GroundsTest):
         self.assertWrong("crates/beta/specs/High.antt:14: more belongs in specs/private/")
 
     def test_a_public_one_among_the_private(self):
-        self.edit(HIGH, "pub same : p .unread ≡ left", "pub same : Small p left")
-        self.edit(HIGH, "{lowOf as low}", "{lowOf as low}\nuse Rattle·beta·specs.specs.private.Small.{Small}")
+        self.edit(HIGH, "pub same : p.unread ≡ left", "pub same : Small p left")
+        self.edit(HIGH, "{low_of as low}", "{low_of as low}\nuse Rattle.beta.specs.private.Small.{Small}")
         self.assertWrong("crates/beta/specs/private/Small.antt:4: Small stands in specs/private/, and a promise or a public contract rests on it")

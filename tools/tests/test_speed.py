@@ -112,7 +112,7 @@ class RustSide(TreeTest):
     """How the Rust side is compiled, or why it is not, by stand-ins that alone are on the PATH."""
 
     FILES = {"bin/rt": RT, "bin/rustc": RUSTC, "written": WRITTEN, "toolchain/bin/clang": CLANG,
-             f"on/{platform.machine()}/toolchain/bin/qemu-x86_64": "#!/bin/sh\n"}
+             "toolchain/lib/ld-linux-x86-64.so.2": "", "bin/rattle-link": "", f"on/{platform.machine()}/toolchain/bin/qemu-x86_64": "#!/bin/sh\n"}
 
     def write(self):
         super().write()
