@@ -1,8 +1,8 @@
 """The law of one answer that a public function's signature asks for: its type, and its proof where the clauses say what is seen one by one.
 
-What a caller sees of a call: the result, or the bytes and the place of a part of his own slice; and what each buffer or struct that was lent
-to be written (`&mut`) holds afterwards. What is lent to be read (`&`) is not among it: since Rattle's clauses speak of it by one value, `x.now`,
-no call can change it, so there is nothing left to state. Rattle makes a plain reading of every contract, `Post`, over which the law stands.
+What a caller sees of a call: the result, or the bytes and the place of a part of his own slice; and what each lent buffer or struct holds
+afterwards, the written ones first. Rattle makes a plain reading of every contract, `Post`, over which the law stands. What is lent to be read
+(`&`) has one value in most clauses, `x.now`; so that the law can speak of it after the call, one clause says `x.exit.now ≡ x.entry.now`.
 """
 import re
 
@@ -28,8 +28,8 @@ def is_written(kind):
     return [word for word in kind.split(" ") if not word.startswith("'")][:2] == ["&", "mut"]
 
 
-def written_of(function):
-    """The numbers of the parameters that are lent to be written."""
+def lent_of(function):
+    """The numbers of the lent parameters, the written ones first."""
     lent = []
     for index, (name, kind) in enumerate(function.parameters):
         if "* mut" in kind or "* const" in kind:
@@ -37,8 +37,13 @@ def written_of(function):
         if "&" in kind.split(" ") or "&&" in kind.split(" "):
             if not kind.startswith("& ") or kind.count("&") > 1:
                 raise NoForm(f"its parameter {name} lends something within another type, and no law speaks of that")
-            lent += [index] if is_written(kind) else []
-    return lent
+            lent.append((not is_written(kind), index))
+    return [index for _, index in sorted(lent)]
+
+
+def after_call(name, kind):
+    """What a lent parameter holds after the call, as a clause names it."""
+    return f"{name}.new" if is_written(kind) else f"{name}.exit.now"
 
 
 def place(index):
@@ -48,16 +53,16 @@ def place(index):
 
 def seen_of(function):
     """All that a caller sees of a call: each thing as a law names it, and as a clause does."""
-    lent = written_of(function)
+    lent = lent_of(function)
     seen = [("r", "result")] if function.answer else []
     if "&" in function.answer:
         words = lent_words(function.answer)
         if words[:1] != ["["] or is_written(function.answer) or function.answer.count("&") > 1:
             raise NoForm(f"it answers `{function.answer}`; there is a law only for a part of a slice that is lent to be read")
         seen = [("r.now", "result.now"), ("r.ref_ptr", "result.ref_ptr")]
-    seen += [(f"s{place(index)}.now", f"{function.parameters[index][0]}.new") for index in lent]
+    seen += [(f"s{place(index)}.now", after_call(*function.parameters[index])) for index in lent]
     if not seen:
-        raise NoForm("it answers nothing and nothing is lent to it to be written, so nothing is seen of it")
+        raise NoForm("it answers nothing and nothing is lent to it, so nothing is seen of it")
     return seen
 
 
