@@ -14,7 +14,7 @@ use Rattle.bench.specs.declared.step.Stepped.{Stepped}
 use Rattle.replay.specs.Run.{Run, onto, after, run_of, written_of}
 use Rattle.replay.proofs.Runs.{run_none, run_more}
 use Rattle.replay.proofs.Replaying.{length-written, record-at}
-use Rattle.line.specs.Held.{held_of, holding_of}
+use Rattle.line.specs.Held.{held_of}
 use Rattle.line.specs.Line.{Outcome, open_of, empty_of, run_over, waits_of, full_of, outcome_of, called_of, accept_of, accepted_of}
 use Rattle.line.specs.private.Calls.{first_record}
 use Rattle.line.specs.declared.held.Held.{Held}
