@@ -1,7 +1,7 @@
 -- The text of a cut, and of the end. Assumes nothing.
-use Prim.Native.Nat.{ℕ, ◌+◌, ◌*◌, ◌≤◌}
+use Prim.Native.Nat.{ℕ, ◌*◌, ◌≤◌}
 use mathlib.Core.List.{List}
-use mathlib.Core.Path.{◌≡◌, refl, ap, ◌∙◌}
+use mathlib.Core.Path.{◌≡◌, ap, ◌∙◌}
 use native.Mathlib.Omega.{arith}
 use lib.ListN.{length, take, replicate, length-append, length-replicate}
 use Rattle.basics.specs.Lay.{laid_at, Laid}
@@ -9,7 +9,7 @@ use Rattle.text.specs.Lines.{per_line}
 use Rattle.text.specs.Speech.{Counts}
 use Rattle.text.proofs.Whole.{whole-text}
 use Rattle.decimal.proofs.Digits.{length-decimal}
-use Rattle.decimal.specs.Decimal.{most_digits, decimal_of}
+use Rattle.decimal.specs.Decimal.{most_digits}
 use Rattle.answer_lines.specs.Marked.{WritesLines}
 use Rattle.answer_lines.proofs.Lined.{lines-answers, length-answers}
 use Rattle.replay.specs.Run.{written_of}
