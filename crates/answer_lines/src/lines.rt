@@ -57,7 +57,7 @@ fn lines(text: &mut [u8], p: usize, answers: &[u8], n: usize) -> usize
 pub fn put_answers(text: &mut [u8], at: usize, answers: &[u8]) -> usize
     ensures place { result ≡ behind_lines text.old at answers.now }
     ensures laid { text.new ≡ put_lines text.old at answers.now }
-    ensures kept { answers.now ≡ answers.now }
+    ensures kept { answers.exit.now ≡ answers.entry.now }
     ensures next { WritesLines text.old text.new at result answers.now }
 {
     let n = answers.len() / PER_LINE;

@@ -31,7 +31,7 @@ pub fn has_room(room: usize, at: usize, count: usize) -> bool
 pub fn put(dst: &mut [u8], at: usize, src: &[u8]) -> usize
     ensures place { result ≡ behind_of dst.old at src.now }
     ensures laid { dst.new ≡ put_at dst.old at src.now }
-    ensures kept { src.now ≡ src.now }
+    ensures kept { src.exit.now ≡ src.entry.now }
     ensures next { Writes dst.old dst.new at result src.now }
 {
     if has_room(dst.len(), at, src.len()) {

@@ -21,7 +21,7 @@ pub const OUTPUT: usize = ANSWERS * 8;
 pub fn replay_fresh(batch: &[u8], out: &mut [u8]) -> Replayed
     ensures answer { result ≡ returned_of (fresh_run_of batch.now (length out.old)) }
     ensures output { out.new ≡ laid_at out.old 0 (written_of (fresh_run_of batch.now (length out.old)).answers) }
-    ensures batch { batch.now ≡ batch.now }
+    ensures batch { batch.exit.now ≡ batch.entry.now }
     ensures bounds { Bounded batch.now out.old out.new result }
 {
     replay(batch, out, Controller::fresh(), Multiplexer::fresh())

@@ -1,14 +1,14 @@
 -- A call made and shown. Assumes nothing.
 use Prim.Native.Nat.{ℕ, ◌+◌, ◌-◌, ◌≤◌}
-use mathlib.Core.List.{List, []}
-use mathlib.Core.Path.{◌≡◌, refl, ap, ◌∙◌}
+use mathlib.Core.List.{List}
+use mathlib.Core.Path.{◌≡◌, refl, ◌∙◌}
 use native.Mathlib.Omega.{arith}
 use lib.ListN.{length, take, drop, replicate, length-drop}
 use lib.Seq.{length-take-le}
-use Rattle.basics.specs.Lay.{laid_at, Laid, Writes}
+use Rattle.basics.specs.Lay.{laid_at, Writes}
 use Rattle.basics.proofs.Laying.{writes_nothing, then-writes}
 use Rattle.batch.specs.Fresh.{most_output}
-use Rattle.line.specs.Line.{Outcome, outcome_of, closing_of, accept_of, accepted_of, close_of}
+use Rattle.line.specs.Line.{outcome_of, closing_of, accept_of, accepted_of, close_of}
 use Rattle.line.specs.declared.calls.Line.{Line}
 use Rattle.line.specs.declared.calls.Called.{Called}
 use Rattle.line.proofs.Calling.{outcome-within}

@@ -99,7 +99,7 @@ fn list_in(rest: &[u8], most: usize) -> bool
 // Whether an input is a list of calls that is not too long.
 pub fn is_list(input: &[u8]) -> bool
     ensures is { result ≡ is_list_of input.now }
-    ensures kept { input.now ≡ input.now }
+    ensures kept { input.exit.now ≡ input.entry.now }
 {
     if INPUT < input.len() {
         return false;

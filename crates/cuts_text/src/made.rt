@@ -96,7 +96,7 @@ pub fn make(before: Line, rest: &[u8], text: &mut [u8; TEXT]) -> Made
     ensures made { result ≡ made_of before rest.now }
     ensures laid { text.new ≡ laid_at text.old 0 (call_text_of before rest.now) }
     ensures part { Counts result.long text.new }
-    ensures kept { rest.now ≡ rest.now }
+    ensures kept { rest.exit.now ≡ rest.entry.now }
     ensures within { result.used ≤ length rest.now }
 {
     called(text, before, rest)

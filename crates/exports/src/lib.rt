@@ -1,5 +1,5 @@
-// The calls that programs in other languages link, each by value and over plain data: the controller's, the locator's answer as numbers,
-// the display counter, and the report on a batch of settings. include/vorstelpijp.h declares them for C.
+// The calls for programs in other languages, each by value and over plain data: the controller's, the locator's answer as numbers, the
+// display counter, and the report on a batch of settings. The crate exports_c hands them on to C.
 #![tactic(auto)]
 
 ghost use Rattle.std.specs.Prelude.{◌≡◌};
@@ -27,71 +27,62 @@ pub struct Found {
 }
 
 // The power-on state.
-#[unsafe(no_mangle)]
-pub extern "C" fn controller_fresh() -> Controller
+pub fn controller_fresh() -> Controller
     ensures { result ≡ fresh_of }
 {
     Controller::fresh()
 }
 
-#[unsafe(no_mangle)]
-pub extern "C" fn controller_reset(c: Controller) -> Controller
+pub fn controller_reset(c: Controller) -> Controller
     ensures { result ≡ reset_of c }
 {
     c.reset()
 }
 
 // A register write, by RS.
-#[unsafe(no_mangle)]
-pub extern "C" fn controller_write(c: Controller, rs: bool, value: u8) -> Controller
+pub fn controller_write(c: Controller, rs: bool, value: u8) -> Controller
     ensures { result ≡ write_of c rs value }
 {
     c.write(rs, value)
 }
 
 // A read, by RS: what it brings, and the controller after it.
-#[unsafe(no_mangle)]
-pub extern "C" fn controller_read(c: Controller, rs: bool) -> Reading
+pub fn controller_read(c: Controller, rs: bool) -> Reading
     ensures { result ≡ read_of c rs }
 {
     c.read(rs)
 }
 
 // The outputs at this character.
-#[unsafe(no_mangle)]
-pub extern "C" fn controller_outputs(c: Controller) -> Outputs
+pub fn controller_outputs(c: Controller) -> Outputs
     ensures { result ≡ outputs_of c }
 {
     c.outputs()
 }
 
 // n character times.
-#[unsafe(no_mangle)]
-pub extern "C" fn controller_clock(c: Controller, n: u16) -> Controller
+pub fn controller_clock(c: Controller, n: u16) -> Controller
     ensures { result ≡ clock_of n c }
 {
     c.clock(n)
 }
 
 // A pen strike.
-#[unsafe(no_mangle)]
-pub extern "C" fn controller_strike(c: Controller) -> Controller
+pub fn controller_strike(c: Controller) -> Controller
     ensures { result ≡ strike_of c }
 {
     c.strike()
 }
 
 // The newest strike; all zero where there was none.
-#[unsafe(no_mangle)]
-pub extern "C" fn controller_newest(c: Controller) -> Strike
+pub fn controller_newest(c: Controller) -> Strike
     ensures { result ≡ newest_of c.pen }
 {
     c.pen.newest()
 }
 
 // Where the newest strike was.
-#[unsafe(no_mangle)]
-pub extern "C" fn controller_locate(c: Controller) -> Found
+pub fn controller_locate(c: Controller) -> Found
     ensures { result ≡ found_of (locate_of c) }
 {
     let q = locator::locate(c);
@@ -104,8 +95,7 @@ pub extern "C" fn controller_locate(c: Controller) -> Found
 }
 
 // n display fetches under given control bits.
-#[unsafe(no_mangle)]
-pub extern "C" fn display_fetches(bits: u16, from: Display, n: u16) -> Display
+pub fn display_fetches(bits: u16, from: Display, n: u16) -> Display
     ensures { result ≡ fetched_of bits from n }
 {
     let control = Control { bits: bits };
@@ -116,11 +106,10 @@ pub extern "C" fn display_fetches(bits: u16, from: Display, n: u16) -> Display
 }
 
 // The report on a batch of settings, into places of 64 bits: 0, or the number of the refusal.
-#[unsafe(no_mangle)]
-pub extern "C" fn settings_report(settings: &[u8], places: &mut [u64]) -> u8
+pub fn settings_report(settings: &[u8], places: &mut [u64]) -> u8
     ensures said { result ≡ refusal_of settings.now places.old }
     ensures laid { places.new ≡ reported_of settings.now places.old }
-    ensures kept { settings.now ≡ settings.now }
+    ensures kept { settings.exit.now ≡ settings.entry.now }
 {
     let said = report::report(settings, places);
     said

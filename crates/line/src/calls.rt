@@ -173,7 +173,7 @@ impl Line {
     pub fn accept(self, cut: &[u8], out: &mut [u8]) -> Called
         ensures answer { result ≡ accept_of self cut.now out.old }
         ensures output { out.new ≡ accepted_of self cut.now out.old }
-        ensures cut { cut.now ≡ cut.now }
+        ensures cut { cut.exit.now ≡ cut.entry.now }
     {
         let bench = self.bench;
         let held = self.held;

@@ -46,7 +46,7 @@ pub fn list(input: &[u8], text: &mut [u8; TEXT]) -> usize
     ensures long { result ≡ length (listing_of input.now) }
     ensures laid { text.new ≡ laid_at text.old 0 (listing_of input.now) }
     ensures part { Counts result text.new }
-    ensures kept { input.now ≡ input.now }
+    ensures kept { input.exit.now ≡ input.entry.now }
 {
     if INPUT < input.len() {
         return put(text, 0, b"too long\n");

@@ -7,7 +7,7 @@ ghost use Rattle.replay.specs.Rest.{rest_of, rest_at};
 pub fn unread_rest(batch: &[u8], taken: usize) -> &[u8]
     ensures bytes { result.now ≡ rest_of batch.now taken }
     ensures place { result.ref_ptr ≡ rest_at batch.entry.ref_ptr batch.now taken }
-    ensures batch { batch.now ≡ batch.now }
+    ensures batch { batch.exit.now ≡ batch.entry.now }
 {
     if taken <= batch.len() {
         return &batch[taken..];

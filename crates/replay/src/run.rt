@@ -70,7 +70,7 @@ pub fn replay(
 ) -> Replayed
     ensures answer { result ≡ replay_of batch.now out.old controller multiplexer }
     ensures output { out.new ≡ output_of batch.now out.old controller multiplexer }
-    ensures batch { batch.now ≡ batch.now }
+    ensures batch { batch.exit.now ≡ batch.entry.now }
 {
     let mut bench = Bench {
         controller,

@@ -23,7 +23,7 @@ fn are_settings(n: usize) -> bool
 pub fn report(settings: &[u8], out: &mut [u64]) -> u8
     ensures said { result ≡ refusal_of settings.now out.old }
     ensures laid { out.new ≡ reported_of settings.now out.old }
-    ensures kept { settings.now ≡ settings.now }
+    ensures kept { settings.exit.now ≡ settings.entry.now }
 {
     if are_settings(settings.len()) {
         let n = settings.len() / BYTES;

@@ -38,7 +38,7 @@ pub fn tell(input: &[u8], text: &mut [u8; TEXT]) -> usize
     ensures long { result ≡ length (report_text_of input.now) }
     ensures laid { text.new ≡ laid_at text.old 0 (report_text_of input.now) }
     ensures part { Counts result text.new }
-    ensures kept { input.now ≡ input.now }
+    ensures kept { input.exit.now ≡ input.entry.now }
 {
     let mut places = [0u64; PLACES];
     if report(input, &mut places) == 0 {

@@ -69,7 +69,7 @@ pub fn room(input: &[u8], text: &mut [u8; TEXT]) -> usize
     ensures long { result ≡ length (room_text_of input.now) }
     ensures laid { text.new ≡ laid_at text.old 0 (room_text_of input.now) }
     ensures part { Counts result text.new }
-    ensures kept { input.now ≡ input.now }
+    ensures kept { input.exit.now ≡ input.entry.now }
 {
     if input.len() < HEAD {
         return put(text, 0, b"no room\n");

@@ -42,7 +42,7 @@ pub fn tell(before: Line, cut: &[u8], text: &mut [u8; TEXT]) -> Told
     ensures told { result ≡ told_of before cut.now }
     ensures laid { text.new ≡ laid_at text.old 0 (turn_text_of before cut.now) }
     ensures part { Counts result.long text.new }
-    ensures kept { cut.now ≡ cut.now }
+    ensures kept { cut.exit.now ≡ cut.entry.now }
 {
     let mut out = [0u8; OUTPUT];
     let called = before.accept(cut, &mut out);

@@ -37,7 +37,7 @@ fn cut(given: &[u8]) -> [u8; BYTES]
 // Whether every register keeps its whole byte, so that no bit is set that it lacks.
 pub fn is_clean(given: &[u8]) -> bool
     ensures is { result ≡ clean_of given.now }
-    ensures kept { given.now ≡ given.now }
+    ensures kept { given.exit.now ≡ given.entry.now }
 {
     let mut k: usize = 0;
     while k < BYTES {
@@ -54,7 +54,7 @@ pub fn is_clean(given: &[u8]) -> bool
 // The registers of a setting.
 pub fn registers(given: &[u8]) -> Registers
     ensures is { result ≡ setting_of given.now }
-    ensures kept { given.now ≡ given.now }
+    ensures kept { given.exit.now ≡ given.entry.now }
 {
     let held = cut(given);
     Registers { held, named: 15 }
@@ -63,7 +63,7 @@ pub fn registers(given: &[u8]) -> Registers
 // The controller that a setting starts.
 pub fn start(given: &[u8]) -> Controller
     ensures is { result ≡ started_of given.now }
-    ensures kept { given.now ≡ given.now }
+    ensures kept { given.exit.now ≡ given.entry.now }
 {
     let mut c = Controller::fresh();
     c.regs = registers(given);

@@ -1,5 +1,5 @@
 -- What the reader asks of all entries of a file, one question after the other (document 02, W6).
-use Rattle.std.specs.Prelude.{ℕ, ◌+◌, Bool, true, ◌&&◌, List, [], ◌∷◌, eqb, leb, ltb, length, take, drop}
+use Rattle.std.specs.Prelude.{ℕ, ◌+◌, Bool, true, ◌&&◌, List, [], ◌∷◌, eqb, leb, ltb}
 use Rattle.basics.specs.Choice.{when◌then◌else◌}
 use Rattle.setup_file.specs.Setup.{kind_of, register_bytes, control_bytes, most_batch}
 use Rattle.setup_file.specs.declared.kind.Kind.TheVariants.{Registers, Control, Batch}

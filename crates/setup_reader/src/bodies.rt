@@ -46,7 +46,7 @@ fn least(a: usize, b: usize) -> usize
 fn held(file: &[u8], start: usize, size: usize) -> &[u8]
     ensures bytes { result.now ≡ shown_of file.now (At start size) }
     ensures place { result.ref_ptr ≡ shown_at file.entry.ref_ptr file.now (At start size) }
-    ensures kept { file.now ≡ file.now }
+    ensures kept { file.exit.now ≡ file.entry.now }
 {
     let from = least(start, file.len());
     let to = from + least(size, file.len() - from);
@@ -57,7 +57,7 @@ fn held(file: &[u8], start: usize, size: usize) -> &[u8]
 pub(crate) fn shown(file: &[u8], place: Place) -> &[u8]
     ensures bytes { result.now ≡ shown_of file.now place }
     ensures place { result.ref_ptr ≡ shown_at file.entry.ref_ptr file.now place }
-    ensures kept { file.now ≡ file.now }
+    ensures kept { file.exit.now ≡ file.entry.now }
 {
     let Place::At { start, size } = place else {
         let end = file.len();
@@ -89,7 +89,7 @@ fn place_of(opened: Opened, kind: Kind) -> Place
 pub fn part(file: &[u8], kind: Kind) -> &[u8]
     ensures bytes { result.now ≡ shown_of file.now (place_of (opened_of file.now) kind) }
     ensures place { result.ref_ptr ≡ shown_at file.entry.ref_ptr file.now (place_of (opened_of file.now) kind) }
-    ensures kept { file.now ≡ file.now }
+    ensures kept { file.exit.now ≡ file.entry.now }
 {
     let place = place_of(open(file), kind);
     shown(file, place)

@@ -122,7 +122,7 @@ fn judged(file: &[u8], n: usize) -> Opened
 // The places of the parts that a file holds, or why it holds no setup.
 pub fn open(file: &[u8]) -> Opened
     ensures read { result ≡ opened_of file.now }
-    ensures kept { file.now ≡ file.now }
+    ensures kept { file.exit.now ≡ file.entry.now }
 {
     if whole(file) {
         return judged(file, told(file));

@@ -1,7 +1,6 @@
 -- Reader and writer undo each other (document 02, W6), and what the parts of a file are.
 use Rattle.std.specs.Prelude.{ℕ, ◌+◌, ◌<◌, ◌≤◌, ◌≡◌, List, ◌++◌, length, get_or, take, drop}
 use Rattle.std.proofs.Math.Option.{Option, none, some}
-use Rattle.raster.specs.declared.registers.Registers.{Registers}
 use Rattle.setting.specs.Setting.{started_of}
 use Rattle.setup_file.specs.Setup.{Setup, register_bytes, body_of}
 use Rattle.setup_file.specs.File.{file_of}

@@ -9,7 +9,7 @@ use Rattle.basics.specs.Bits.{num, high_of, low_of}
 use Rattle.basics.specs.Lay.{laid_at, Writes}
 use Rattle.basics.proofs.Laying.{then-writes}
 use Rattle.setup_file.specs.Setup.{Setup, kind_of, register_bytes, control_bytes, word_body}
-use Rattle.setup_file.specs.File.{Piece, piece_if, pieces_of, entry_bytes, contents_length, entries_from, bodies_of, bytes_of, file_of}
+use Rattle.setup_file.specs.File.{Piece, piece_if, pieces_of, entry_bytes, entries_from, bodies_of, bytes_of, file_of}
 use Rattle.setup_file.specs.declared.kind.Parts.{Parts}
 use Rattle.setup_file.specs.declared.kind.Kind.TheVariants.{Registers, Control, Batch}
 use Rattle.setup_file.proofs.Pieces.{entries-append, bodies-append}

@@ -1,5 +1,5 @@
 -- Writing the file of a setup (document 02, W6).
-use Rattle.std.specs.Prelude.{ℕ, ◌+◌, Bool, true, false, List, [], leb, ltb, length}
+use Rattle.std.specs.Prelude.{ℕ, Bool, true, false, List, [], leb, ltb, length}
 use Rattle.std.proofs.Math.Option.{Option, none, some}
 use Rattle.basics.specs.Choice.{when◌then◌else◌}
 use Rattle.basics.specs.Lay.{laid_at}

@@ -72,8 +72,8 @@ pub fn write(
 ) -> Written
     ensures said { result ≡ written_of (given_of has registers.now control batch.now) (length dst.old) }
     ensures laid { dst.new ≡ output_of dst.old (given_of has registers.now control batch.now) }
-    ensures kept { registers.now ≡ registers.now }
-    ensures batch { batch.now ≡ batch.now }
+    ensures kept { registers.exit.now ≡ registers.entry.now }
+    ensures batch { batch.exit.now ≡ batch.entry.now }
 {
     let size = counted(has.batch, batch);
     let said = judge(has, registers, size, dst.len());

@@ -51,7 +51,7 @@ pub(crate) fn has_room_for(room: usize, at: usize, bytes: usize, ends: usize) ->
 pub fn put_hex(dst: &mut [u8], at: usize, src: &[u8]) -> usize
     ensures place { result ≡ behind_of dst.old at (hex_of src.now) }
     ensures laid { dst.new ≡ put_at dst.old at (hex_of src.now) }
-    ensures kept { src.now ≡ src.now }
+    ensures kept { src.exit.now ≡ src.entry.now }
     ensures next { Writes dst.old dst.new at result (hex_of src.now) }
 {
     if has_room_for(dst.len(), at, src.len(), 0) {

@@ -50,7 +50,7 @@ fn lay_lines(dst: &mut [u8], at: usize, bytes: &[u8], n: usize) -> usize
 pub fn put_lines(dst: &mut [u8], at: usize, bytes: &[u8]) -> usize
     ensures place { result ≡ behind_of dst.old at (lines_of bytes.now) }
     ensures laid { dst.new ≡ put_at dst.old at (lines_of bytes.now) }
-    ensures kept { bytes.now ≡ bytes.now }
+    ensures kept { bytes.exit.now ≡ bytes.entry.now }
     ensures next { Writes dst.old dst.new at result (lines_of bytes.now) }
 {
     let n = (bytes.len() + (PER_LINE - 1)) / PER_LINE;

@@ -6,7 +6,7 @@ ghost use Rattle.text.specs.Speech.{said_of, Counts};
 pub fn said(wanted: bool, text: &[u8]) -> usize
     ensures much { result ≡ said_of wanted text.now }
     ensures part { Counts result text.now }
-    ensures kept { text.now ≡ text.now }
+    ensures kept { text.exit.now ≡ text.entry.now }
 {
     if wanted {
         return text.len();

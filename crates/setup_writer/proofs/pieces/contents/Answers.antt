@@ -1,0 +1,8 @@
+use Rattle.basics.proofs.Laying.{then-writes}
+use Rattle.setup_writer.proofs.pieces.contents.Goals as goal
+
+pub returns : goal.returns
+returns c =
+    then-writes c.number-first.ensures
+    (then-writes (rw c.registers_at.ensures.is at c.entry-second.ensures)
+    (then-writes (rw c.control_at.ensures.is at c.entry-third.ensures) (rw c.batch_at.ensures.is at c.entry.ensures)))
