@@ -1,28 +1,27 @@
 -- `Calls` of specs/Calls.antt holds of every line. Assumes nothing.
-use Prim.Native.Nat.{ℕ, zero, suc, ◌+◌, ◌-◌, ◌*◌, ◌≤◌, ◌<◌}
+use Prim.Native.Nat.{ℕ, zero, suc, ◌+◌, ◌-◌, ◌*◌, ◌≤◌}
 use mathlib.Core.Bool.{Bool, true, false, false≢true}
 use mathlib.Core.List.{List, [], ◌∷◌, ◌++◌, append-nil}
 use mathlib.Core.Logic.{◌↔◌, ⊎_elim, inl, inr}
 use mathlib.Core.Path.{◌≡◌, refl, sym, ap, ◌∙◌}
 use native.Mathlib.Nat.{sub-zero, zero-sub, suc-sub-suc}
 use native.Mathlib.Omega.{arith}
-use lib.ListN.{length, take, drop, length-append, length-drop}
+use lib.ListN.{length, drop, length-append, length-drop}
 use lib.Seq.{drop-nil, drop-length, take_at, drop_at}
 use Rattle.basics.proofs.Laying.{laid_none, laid-front}
-use Rattle.basics.specs.Choice.{when◌then◌else◌}
 use Rattle.replay.specs.Run.{Run, written_of}
 use Rattle.replay.proofs.Replaying.{length-written}
 use Rattle.every_replay.proofs.Counts.{sound}
-use Rattle.line.specs.Held.{held_of, holding_of, closing_number}
-use Rattle.line.specs.Line.{Outcome, unmoved_of, run_over, waits_of, full_of, outcome_of, closing_of, accepted_of}
+use Rattle.line.specs.Held.{held_of, closing_number}
+use Rattle.line.specs.Line.{Outcome, run_over, waits_of, full_of, outcome_of, accepted_of}
 use Rattle.line.specs.declared.held.Held.{Held}
 use Rattle.line.specs.declared.held.Held.TheVariants.{Nothing, One, Two, Three}
 use Rattle.line.specs.declared.calls.Line.{Line}
 use Rattle.line.proofs.Holding.{held-most, held_kept}
 use Rattle.line.proofs.Calling.{closed-outcome, full-outcome, waits-outcome, by-ending, closing-open, closing-closed}
 use Rattle.line.proofs.Accepting.{accepted-same}
-use Rattle.every_line.specs.Calls.{holds, SoundCall, Records, Output, Closes, Calls}
-use Rattle.every_line.proofs.Records.{Took, took}
+use Rattle.every_line.specs.Calls.{SoundCall, Records, Output, Closes, Calls}
+use Rattle.every_line.proofs.Records.{took}
 
 -- what is left of two lists, one behind the other
 pub drop-both : (l m : List ℕ) (t : ℕ) → drop t (l ++ m) ≡ drop t l ++ drop (t - length l) m

@@ -1,5 +1,5 @@
 -- `Together` of specs/Cuts.antt holds of every line. Assumes nothing.
-use Prim.Native.Nat.{ℕ, ◌+◌, ◌-◌, ◌*◌, ◌/◌, ◌≤◌}
+use Prim.Native.Nat.{ℕ, ◌+◌, ◌-◌, ◌*◌, ◌≤◌}
 use mathlib.Core.Bool.{false}
 use mathlib.Core.List.{List, [], ◌∷◌, ◌++◌, append_assoc, append-nil}
 use mathlib.Core.Path.{◌≡◌, refl, sym, ap, subst, ◌∙◌}
@@ -7,7 +7,7 @@ use native.Mathlib.Omega.{arith}
 use lib.ListN.{length, drop, length-append, drop_of_length-le}
 use Rattle.answer.specs.declared.Answer.{Answer}
 use Rattle.bench.specs.declared.step.Bench.{Bench}
-use Rattle.replay.specs.Run.{Run, stop, onto, run_of}
+use Rattle.replay.specs.Run.{Run, stop, run_of}
 use Rattle.replay.proofs.Runs.{run_none, run_short}
 use Rattle.every_replay.proofs.Counts.{sound}
 use Rattle.every_replay.proofs.Parts.{run_on}
@@ -17,7 +17,7 @@ use Rattle.line.specs.declared.held.Held.{Held}
 use Rattle.line.specs.declared.held.Held.TheVariants.{Nothing, One, Two, Three}
 use Rattle.line.specs.declared.calls.Line.{Line}
 use Rattle.line.proofs.Calling.{full-outcome, waits-outcome, by-ending, closing-open}
-use Rattle.every_line.specs.Cuts.{RoomFor, Same, AsOneReplay, Cut, joined_of, last_of, answers_of, Roomy, Brought, done, call, Together}
+use Rattle.every_line.specs.Cuts.{RoomFor, AsOneReplay, Cut, joined_of, last_of, answers_of, Roomy, Brought, done, call, Together}
 use Rattle.every_line.proofs.Calls.{calls}
 
 -- all calls, and then closing, as a run

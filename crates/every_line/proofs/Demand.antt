@@ -1,12 +1,12 @@
 -- `Demand3OffTheLine` of specs/Demand.antt. Assumes nothing.
-use Prim.Native.Nat.{ℕ, suc, ◌+◌, ◌-◌, ◌*◌, ◌≤◌}
+use Prim.Native.Nat.{ℕ, ◌+◌, ◌-◌, ◌*◌}
 use mathlib.Core.List.{List, [], ◌∷◌, ◌++◌, map, append_assoc}
 use mathlib.Core.Path.{◌≡◌, refl, sym, ap, ◌∙◌}
 use native.Mathlib.Omega.{arith}
 use lib.ListN.{length, length-append}
 use Rattle.answer.specs.declared.Answer.{Answer}
 use Rattle.bodies.specs.Bodies.{located_body_of, located_answer_of}
-use Rattle.bench.specs.Step.{on_decoded, step_of}
+use Rattle.bench.specs.Step.{on_decoded}
 use Rattle.bench.specs.declared.step.Bench.{Bench}
 use Rattle.bench.specs.declared.step.Stepped.{Stepped}
 use Rattle.bench.proofs.Steps.{decoded-first, on-locate}

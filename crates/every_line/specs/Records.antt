@@ -1,5 +1,5 @@
 -- Records one after the other, as they are sent, and what becomes of each (document 01, "Records and what comes back").
-use Rattle.std.specs.Prelude.{ℕ, List, [], ◌∷◌, ◌++◌, ◌≡◌}
+use Rattle.std.specs.Prelude.{ℕ, List, [], ◌∷◌, ◌≡◌}
 use Rattle.answer.specs.Answer.{plain_of}
 use Rattle.answer.specs.declared.Answer.{Answer}
 use Rattle.bench.specs.Step.{step_of}

@@ -1,6 +1,5 @@
 -- `PrintsTheListing` of specs/Printed.antt. Assumes nothing.
-use Prim.Native.Nat.{ℕ, ◌+◌, ◌*◌, ◌/◌, ◌%◌, ◌≤◌, ◌<◌}
-use mathlib.Core.Bool.{false}
+use Prim.Native.Nat.{ℕ, ◌%◌, ◌≤◌, ◌<◌}
 use mathlib.Core.List.{List, [], ◌∷◌, ◌++◌}
 use mathlib.Core.Logic.{⊎_elim}
 use mathlib.Core.Path.{◌≡◌, refl, sym, ap, ap₂, ◌∙◌}
@@ -8,24 +7,20 @@ use native.Mathlib.Omega.{arith}
 use lib.ListN.{length, length-append}
 use borrow.Author.Tests.{le-ltb}
 use Rattle.basics.specs.Choice.{when◌then◌else◌}
-use Rattle.answer.specs.declared.Answer.{Answer}
 use Rattle.answer_lines.specs.Lines.{answer_lines_of}
 use Rattle.answer_lines.proofs.Lined.{lines-append}
 use Rattle.batch.specs.Fresh.{most_bytes, most_output, fresh_bench, fresh_run_of}
 use Rattle.decimal.proofs.Digits.{one-digit}
 use Rattle.every_line.specs.Cuts.{RoomFor, Same, last_of, answers_of, Roomy}
-use Rattle.every_line.proofs.Calls.{calls}
 use Rattle.every_line.proofs.Cuts.{together}
 use Rattle.every_replay.proofs.Counts.{sound}
-use Rattle.line.specs.Held.{held_of}
-use Rattle.line.specs.Line.{fresh_line, closing_of, outcome_of}
+use Rattle.line.specs.Line.{fresh_line, closing_of}
 use Rattle.line.specs.declared.calls.Line.{Line}
 use Rattle.line.proofs.Holding.{held-most}
 use Rattle.lister.specs.Listing.{end_of, listed_of, batch_listing_of, listing_of}
-use Rattle.serial_text.specs.Turn.{most_turn_answers, turn_of, turn_text_of}
+use Rattle.serial_text.specs.Turn.{turn_of, turn_text_of}
 use Rattle.serial_text.specs.Ending.{last_text_of}
-use Rattle.text.specs.Lines.{per_line}
-use Rattle.serial_listing.specs.Printed.{as_cuts, input_of, WithinOneRead, so_far_of, printed_of, Printed, PrintsTheListing}
+use Rattle.serial_listing.specs.Printed.{as_cuts, input_of, WithinOneRead, so_far_of, printed_of, PrintsTheListing}
 
 -- the texts are the lines of all answers
 lines-so-far : (l : Line) (cuts : List (List ℕ)) → so_far_of l cuts ≡ answer_lines_of (answers_of l (as_cuts cuts))

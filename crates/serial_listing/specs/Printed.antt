@@ -1,6 +1,6 @@
 -- What the program `serial` prints, cut after cut, and that it is the listing (document 02, W3). proofs/Printed.antt shows it. That `main`
 -- prints these texts, one after the other, is no statement: it is held to its words.
-use Rattle.std.specs.Prelude.{ℕ, suc, ◌*◌, ◌≤◌, List, [], ◌∷◌, ◌++◌, map, ◌≡◌, length}
+use Rattle.std.specs.Prelude.{ℕ, ◌*◌, ◌≤◌, List, [], ◌∷◌, ◌++◌, map, ◌≡◌, length}
 use Rattle.answer_lines.specs.Lines.{answer_lines_of}
 use Rattle.batch.specs.Fresh.{most_bytes, fresh_run_of}
 use Rattle.line.specs.Line.{fresh_line}
