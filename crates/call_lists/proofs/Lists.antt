@@ -5,7 +5,6 @@ use mathlib.Core.List.{List, [], ◌∷◌, ◌++◌}
 use mathlib.Core.Logic.{◌⊎◌, inl, inr, ⊎_elim}
 use mathlib.Core.Path.{◌≡◌, refl, sym, ap, ◌∙◌}
 use native.Mathlib.Omega.{arith}
-use lib.Dec.{eqb, ltb}
 use lib.ListN.{length, take, drop, replicate, length-append, take-append-drop}
 use lib.Seq.{take_at, drop_at, length-take-le}
 use borrow.Author.Tests.{eqb-true, ne_eqb, lt-ltb, le-ltb}
@@ -15,7 +14,6 @@ use Rattle.basics.proofs.Tests.{lt-or-ge}
 use Rattle.batch.specs.Fresh.{most_bytes}
 use Rattle.line.specs.Line.{fresh_line, outcome_of}
 use Rattle.line.specs.declared.calls.Line.{Line}
-use Rattle.rooms_text.specs.Rooms.{room_of}
 use Rattle.cuts_text.specs.Asked.{call_head, cut_length, cut_of, first_of, length_of, list_in, is_list_of}
 use Rattle.cuts_text.specs.Made.{cut_text_of, text_shown, line_left, call_text_of, made_of}
 use Rattle.cuts_text.specs.Whole.{calls_text_in, no_call, cuts_text_of}
