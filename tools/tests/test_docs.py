@@ -100,6 +100,7 @@ class Quotes(DocsTest):
         self.assertQuote("`alpha: three`", "crate alpha has no three")
         self.assertQuote("`beta: one`", "crate beta has no one")
         self.assertQuote("`three_of`", "`three_of` names nothing")
+        self.assertQuote("`has_room-ensures`", "`has_room-ensures` names nothing")
         self.assertQuote("`crates/alpha/specs/One.antt: ghost_of`", "no ghost_of in crates/alpha/specs/One.antt")
 
     def test_commands_that_are_none(self):
