@@ -8,6 +8,7 @@ PAGES = ("README.md", "docs/PROMISES.md", "docs/RULES.md", "docs/DECISIONS.md", 
          "docs/PROVING.md", "docs/LISTING.md")
 TIMES = "docs/CHECK-TIMES.md"
 TIMES_HEAD = ("crate", "functions", "seconds", "memory, MB", "must-fail edits")
+NOT_MEASURED = "not measured"  # for seconds and memory, of a crate that came after the measurements
 
 
 def check_quotes(things, page, text):
@@ -87,6 +88,9 @@ def check_times(things):
             said = row.cells.get(column, "")
             if said != count:
                 yield f"{TIMES}:{row.line}: {name} has {count or 'no'} {column}, and the row says {said or 'nothing'}"
+        measured = [row.cells.get(column, "") for column in ("seconds", "memory, MB")]
+        if measured != [NOT_MEASURED] * 2 and not all(said.isdecimal() for said in measured):
+            yield f"{TIMES}:{row.line}: {name} has its seconds and its memory as numbers, or '{NOT_MEASURED}' for both"
     for name in things.crates:
         if named.count(name) != 1:
             yield f"{TIMES}: {named.count(name)} rows for the crate {name}, and not one"

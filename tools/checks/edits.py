@@ -175,9 +175,12 @@ def check_static(top):
     """What is wrong with the edits themselves, and how many there are."""
     found, wrong = edits_of(top)
     for path in found:
+        folder, text = path.parent.parent, path.read_text()
         try:
-            edited(path.parent.parent, path.read_text())
-        except BadEdit as why:
+            edited(folder, text)
+            for place in shared(places_of(folder, text)):
+                raise BadEdit(f"{place} has two of its replacements, so one could hide the other")
+        except (BadEdit, source.Unreadable) as why:
             wrong.append(f"{path.relative_to(top)}: {why}")
     return wrong, len(found)
 
@@ -290,11 +293,17 @@ def name_of(function):
     return "::".join(filter(None, (function.owner, function.name)))
 
 
+def shared(places):
+    """The functions that have two replacements of an edit or more, by where each of them stands."""
+    counts = collections.Counter(filter(None, places))
+    return sorted(place for place, count in counts.items() if count > 1)
+
+
 def hidden(facts, places):
     """What may hide behind another: a replacement without a fact of its very function, or a constant without one of yet another."""
     named = [place for place in places if place]
     own = {place: {fact for fact in facts if f"::{fact}".endswith(f"::{place}")} for place in named}
-    found = [f"{place} has two of its replacements" for place in sorted(own) if named.count(place) > 1]
+    found = [f"{place} has two of its replacements" for place in shared(places)]
     found += [f"no fact is of {place}" for place in sorted(own) if not own[place]]
     if len(facts - set().union(*own.values())) < len(places) - len(named):
         found.append("no fact is of a constant alone")

@@ -4,8 +4,8 @@ import re
 from checks import markdown
 
 PAGE = "docs/RULES.md"
-ENTRY = re.compile(r"`(\w+): ([\w-]+)`")
-ENTRIES = re.compile(r"`\w+: [\w-]+`(?:, `\w+: [\w-]+`)*")
+ENTRY = re.compile(r"`(\w+): ([\w◌-]+)`")
+ENTRIES = re.compile(r"`\w+: [\w◌-]+`(?:, `\w+: [\w◌-]+`)*")
 REMARK = re.compile(r"\([^()`]+\)")
 # The heads of its tables, each with the columns that may be empty or hold a remark in round brackets instead.
 HEADS = {("rule", "definition", "code", "refused"): ("definition", "code"), ("form", "code"): ()}

@@ -34,7 +34,7 @@ SUMS = {
     "crates/refresh_and_pictures/specs/Picture.antt": "6c632a8e0c78c3a1",
     "crates/refresh_and_pictures/specs/Refresh.antt": "0f9d31eac13d61ec",
     "crates/replay/specs/Run.antt": "58f984f5e798cd2e",
-    "crates/serial_listing/specs/Printed.antt": "911799768ad383b2",
+    "crates/serial_listing/specs/Printed.antt": "4d9868f216b00ea6",
     "crates/setting/specs/Writes.antt": "53269a4c1eb12b58",
     "crates/settled/specs/Cases.antt": "955030da39ecba36",
     "crates/settled/specs/Premises.antt": "8e434744bce6de89",

@@ -13,11 +13,12 @@ KNOWN = {
     "let else", "let .. else", "#[repr(C)]", 'extern "C"', "#![tactic(auto)]", "requires", "ensures", "result", "main", "read", "write",
     "rt", "cargo", "rt: ok", "N passed, 0 failed", "N passed, M failed",
     "abbrev", "unfoldable", "unfolding", "let", "let mut", "match", "&", "&mut", "&&", "eqb", "use", "ghost use", "staticlib",
-    "c", "goal", "returns", "refl", "cc", "rw", "ap", "simp", "omega", "grind", "search", "search rules", "search cases", "search cases depth 9",
+    "when .. then .. else ..", "==", "..", "let h = c.STEP in ?",
+    "c", "x", "goal", "returns", "refl", "cc", "rw", "ap", "simp", "omega", "grind", "search", "search rules", "search cases", "search cases depth 9",
     "Answers.antt", "Invariants.antt", "proofs/F/Answers.antt", "proofs/F/Invariants.antt",
 }
 PATTERNS = (r"end [034]", r"--as \w+", r"[-#;$]", r"[0-9a-f]{16}", r"\$[0-9A-F]{2,4}", r"\d+", r"R\d{1,2}", r"B\d{1,2}", r"goal\.[\w-]+",
-            r"(?:loop-|returns-)[\w-]+", r"c?(?:\.[\w-]+)+", r"\w+\.(?:now|old|new)", r"#\[tactic\(auto, using\(.*\)\)\]")
+            r"(?:loop-|returns-|overflow_)[\w-]+", r"\w+-requires", r"c?(?:\.[\w-]+)+", r"\w+\.(?:now|old|new)", r"#\[tactic\(auto, using\(.*\)\)\]")
 # What rt does, beside a crate, an option, or a word in capitals that stands for such.
 RT_TASKS = {"new", "check", "run", "test", "try", "lib", "ci", "must-fail", "fmt", "tidy", "plant", "expand", "lemma", "verdict", "doc", "version"}
 

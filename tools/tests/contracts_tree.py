@@ -35,6 +35,7 @@ pub fn put(dst: &mut [u8], at: usize, src: &[u8]) -> bool
     ensures said { result ≡ true }
     ensures held { dst.new ≡ dst.old }
     ensures long { length dst.new ≤ length src.now }
+    ensures read { src.exit.now ≡ src.entry.now }
 {
     true
 }
@@ -81,11 +82,11 @@ pub alpha-one : OneAnswer AlphaOne.Post (λ κs r s. r)
 alpha-one κs a x y s t p q = one_answer p q
 
 pub alpha-put : OneAnswer AlphaPut.Post
-  (λ κs r s. r beside s.0.now)
+  (λ κs r s. r beside s.0.now beside s.1.1.0.now)
 alpha-put κs a x y s t p q =
-  one_answer p.0 q.0 and one_answer p.1.0 q.1.0
+  one_answer p.0 q.0 and one_answer p.1.0 q.1.0 and one_answer p.1.1.1 q.1.1.1
 
-pub alpha-rest : OneAnswer AlphaRest.Post (λ κs r s. r.now beside r.ref_ptr)
+pub alpha-rest : OneAnswer AlphaRest.Post (λ κs r s. r.now beside r.ref_ptr beside s.0.now)
 alpha-rest κs a x y s t p q = (by hand)
 
 pub alpha-two-of : OneAnswer AlphaTwoOf.Post (λ κs r s. r)

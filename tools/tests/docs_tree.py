@@ -106,7 +106,7 @@ An entry `alpha: one_of` names a thing.
     ) + PARTS + "| both | `crates/alpha/specs/One.antt: first`, `crates/alpha/specs/One.antt: second` | `alpha: false` |\n",
     DECISIONS: "# Decisions\n\nSee `alpha/src/width.rt`, `Width::counted`, `alpha::Width`, `Width::MASKS`, `one_of`\nand `alpha::one`.\n",
     EVIDENCE: "# Evidence\n\n| tried | closed by |\n|---|---|\n| one | `alpha` |\n",
-    PROVING: "# Proving\n\n`goal.returns-2` of `c.before.f`; `rt ci alpha`, `rt check --only NAME`, `tools/check-docs --all`.\n",
+    PROVING: "# Proving\n\n`goal.returns-2`, `has_room-requires` and `overflow_add-x` of `c.before.f`; `rt ci alpha`, `rt check --only NAME`, `tools/check-docs --all`.\n",
     LISTING: f"""# Listing
 
 `./vorstelpijp explain FILE` with `--as hex`, `R0 = 63; strike` and `end 0`:

@@ -54,6 +54,13 @@ class Rules(DocsTest):
     def test_a_path_in_a_remark(self):
         self.assertEdit(RULES, "(see crates/alpha)", "(see crates/beta)", "there is no crates/beta")
 
+    def test_an_operator(self):
+        self.files["crates/alpha/specs/Two.antt"] = "-- two\nabbrev pub ◌beside◌ : ℕ → ℕ → ℕ\nx beside y = x\n"
+        self.edit(RULES, "`alpha: first`", "`alpha: ◌beside◌`")
+        self.write()
+        self.assertFalse([line for line in self.wrong() if line.startswith(RULES)])
+        self.assertEdit(RULES, "`alpha: ◌beside◌`", "`alpha: ◌and◌`", "no definition ◌and◌ in crate alpha")
+
     def test_a_form_without_code(self):
         self.assertEdit(RULES, "| `alpha: counted` |", "|  |", "under code stands `crate: name`")
 
@@ -93,6 +100,7 @@ class Quotes(DocsTest):
         self.assertQuote("`alpha: three`", "crate alpha has no three")
         self.assertQuote("`beta: one`", "crate beta has no one")
         self.assertQuote("`three_of`", "`three_of` names nothing")
+        self.assertQuote("`has_room-ensures`", "`has_room-ensures` names nothing")
         self.assertQuote("`crates/alpha/specs/One.antt: ghost_of`", "no ghost_of in crates/alpha/specs/One.antt")
 
     def test_commands_that_are_none(self):
@@ -162,6 +170,12 @@ class Times(DocsTest):
 
     def test_another_number_of_functions(self):
         self.assertEdit(TIMES, "| alpha | 2 |", "| alpha | 3 |", "alpha has 2 functions, and the row says 3")
+
+    def test_a_crate_that_was_not_measured(self):
+        self.edit(TIMES, "| alpha | 2 | 1 | 1 | 2 |", "| alpha | 2 | not measured | not measured | 2 |")
+        self.assertRight()
+        self.assertEdit(TIMES, "| not measured | not measured |", "| not measured | 1 |", "alpha has its seconds and its memory as numbers")
+        self.assertEdit(TIMES, "| not measured | 1 |", "|  |  |", "alpha has its seconds and its memory as numbers")
 
     def test_another_number_in_the_text(self):
         self.assertEdit(TIMES, "All 2 must-fail", "All 164 must-fail", "164 must-fail edits, and there are 2")

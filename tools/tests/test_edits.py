@@ -88,6 +88,13 @@ class Static(EditsTest):
         self.files[SPECS] += FILES[EDIT]
         self.assertWrong("it changes a rule and something beside it")
 
+    def test_two_replacements_in_one_function(self):
+        self.edit(LIB, "    x + 1 // one more\n", "    let y = x;\n    y + 1\n")
+        self.files[EDIT] = "file: src/lib.rt\nold: y + 1\nnew: y + 2\nold: let y = x\nnew: let y = 3\n"
+        self.assertWrong(f"{EDIT}: one has two of its replacements, so one could hide the other")
+        self.files[LIB] = self.files[LIB].replace("    y + 1\n", "    two_of(y)\n") + "\nfn two_of(y: u8) -> u8 {\n    y + 1\n}\n"
+        self.assertRight()
+
     def test_an_edit_in_a_crate_that_is_not_listed(self):
         self.files["crates/beta/must-fail/wrong.edit"] = FILES[EDIT]
         self.assertWrong("an edit here is not tried")

@@ -23,8 +23,7 @@ STEPS = (
     "the second program's formatting", "the second program's tests", "the second program's build", "the second program's lints",
     "shell scripts", "the public contracts", "the rules and the promises", "the tools' own tests", "what the must-fail edits edit",
     "proofs, must-fail edits and programs", "what the must-fail edits are refused for",
-    "what may hide in must-fail edits of several parts", "the examples through the second program",
-    "the examples and the desk", "the programs at their edges", "the header for C and the linked calls",
+    "the examples through the second program", "the examples and the desk", "the programs at their edges", "the header for C and the linked calls",
     "the comparison of both programs",
 )
 
@@ -92,6 +91,10 @@ class Passes(GateTest):
         lines, _ = self.good_run()
         self.assertTrue(any(re.fullmatch(r"check-edits --said \S+/rt-ci", line) for line in lines), lines)
 
+    def test_no_edit_is_tried_a_second_time(self):
+        lines, _ = self.good_run()
+        self.assertFalse([line for line in lines if line.startswith("check-edits --try")])
+
     def test_the_second_program_is_read_before_the_proofs(self):
         lines, _ = self.good_run()
         self.assertLess(lines.index("cargo fmt --check"), lines.index("rt ci"))
@@ -122,7 +125,6 @@ class Fails(GateTest):
 
     def test_the_last_steps(self):
         self.assertFails("the comparison of both programs", FAULT="compare")
-        self.assertFails("what may hide in must-fail edits of several parts", FAULT="check-edits --try --several")
 
     def test_programs_that_are_not_there(self):
         lines = self.assertFails("proofs, must-fail edits and programs", FAULT="run --note")

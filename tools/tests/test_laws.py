@@ -38,15 +38,17 @@ class Signatures(ContractsTest):
 
     def test_what_is_seen(self):
         self.assertSeen("(x: u8) -> u8", "r")
-        self.assertSeen("(x: &[u8], y: &mut [u8], z: &'a mut [u8; TEXT]) -> u8", "r", "s.1.0.now", "s.1.1.0.now")
+        self.assertSeen("(x: &[u8], y: &mut [u8], z: &'a mut [u8; TEXT]) -> u8", "r", "s.1.0.now", "s.1.1.0.now", "s.0.now")
         self.assertSeen("(x: &mut [u8])", "s.0.now")
-        self.assertSeen("(x: &[u8], y: &mut [u8]) -> &[u8]", "r.now", "r.ref_ptr", "s.1.0.now")
+        self.assertSeen("(x: &[u8], y: &mut [u8]) -> &[u8]", "r.now", "r.ref_ptr", "s.1.0.now", "s.0.now")
         self.assertSeen("(c: &mut Chip, x: u8) -> Answer", "r", "s.0.now")
-        self.assertSeen("(c: &Chip, x: u8) -> Answer", "r")
+        self.assertSeen("(c: &Chip, x: u8) -> Answer", "r", "s.0.now")
 
     def test_what_is_lent_to_a_method(self):
         function = function_of("impl Chip {\n    pub fn f(&mut self) -> u8 {\n    }\n}\n")
         self.assertEqual(laws.seen_of(function), [("r", "result"), ("s.0.now", "self.new")])
+        function = function_of("impl Chip {\n    pub fn f(&self) -> u8 {\n    }\n}\n")
+        self.assertEqual(laws.seen_of(function), [("r", "result"), ("s.0.now", "self.exit.now")])
 
     def test_proofs(self):
         one = "result ≡ f x"
@@ -57,6 +59,18 @@ class Signatures(ContractsTest):
         self.assertEqual(laws.proof_of(declared("(x: &mut [u8]) -> u8", "(result ≡ f x) × (x.new ≡ g)")), "")
         self.assertEqual(laws.proof_of(declared("(x: u8) -> u8", "result ≡ false → Counts x")), "")
         self.assertEqual(laws.proof_of(declared("(x: u8) -> u8", "let y = x; result ≡ y")), "")
+
+    def test_what_is_lent_to_be_read_needs_its_clause(self):
+        one, read = "result ≡ f x.now", "x.exit.now ≡ x.entry.now"
+        function = lambda *clauses: declared("(x: &[u8], at: usize) -> u8", *clauses)
+        self.assertEqual(laws.law_type(function(one), "F"), "OneAnswer F.Post (λ κs r s. r beside s.0.now)")
+        self.assertEqual(laws.proof_of(function(one, read)), "one_answer p.0 q.0 and one_answer p.1 q.1")
+        self.assertEqual(laws.proof_of(function(read, one)), "one_answer p.1 q.1 and one_answer p.0 q.0")
+        for clauses in ((one,), (one, "x.now ≡ x.now"), (one, "x.entry.now ≡ x.entry.now"), (one, "at ≡ at"), (read,)):
+            with self.subTest(clauses):
+                self.assertEqual(laws.proof_of(function(*clauses)), "")
+        written = declared("(x: &[u8], y: &mut [u8])", read, "y.exit.now ≡ g")
+        self.assertEqual(laws.proof_of(written), "")
 
 
 class Lent(ContractsTest):
@@ -108,6 +122,17 @@ class Written(ContractsTest):
         self.assertNotIn("no-more", text)
         self.assertIn("alpha-rest = ?\n", text)
         self.assertEqual(self.said, [f"{LAWS}: 5 laws, 1 without a proof"])
+
+    def test_a_hole_where_a_lent_slice_may_change(self):
+        for clause in ("    ensures read { src.now ≡ src.now }\n", ""):
+            with self.subTest(clause):
+                self.files = dict(self.FILES)
+                self.edit(LIB, "    ensures read { src.exit.now ≡ src.entry.now }\n", clause)
+                self.edit(LAWS, " and one_answer p.1.1.1 q.1.1.1", "")
+                self.edit(LAWS, "r beside s.0.now beside s.1.1.0.now", "r beside s.0.now")
+                text = self.written()
+                self.assertIn("pub alpha-put : OneAnswer AlphaPut.Post (λ κs r s. r beside s.0.now beside s.1.1.0.now)\nalpha-put = ?\n", text)
+                self.assertEqual(self.said, [f"{LAWS}: 5 laws, 1 without a proof"])
 
     def test_a_law_besides_and_a_wrong_type(self):
         self.files[LAWS] = FILES[LAWS].replace("(λ κs r s. r)\nalpha-one", "(λ κs r s. 0)\nalpha-one")
