@@ -1,5 +1,7 @@
 """What tools/rests-on finds below a promise, a contract and a definition, and what the check of specs/private/ refuses, on a small repository."""
 
+from unittest import mock
+
 from checks import antt, places, restated
 from checks.definitions import CodeType, stands_in, words_in
 from checks.grounds import Grounds, Unknown
@@ -177,6 +179,11 @@ class Places(GroundsTest):
     def test_a_private_one_among_the_others(self):
         self.files[HIGH] += "\n-- more\nabbrev pub more : ℕ\nmore = 0\n"
         self.assertWrong("crates/beta/specs/High.antt:14: more belongs in specs/private/")
+
+    def test_one_of_a_request_that_is_half_done(self):
+        self.files[HIGH] += "\n-- more\nabbrev pub more : ℕ\nmore = 0\n"
+        with mock.patch.object(places, "BEGUN", ("beta",)):
+            self.assertRight()
 
     def test_a_public_one_among_the_private(self):
         self.edit(HIGH, "pub same : p.unread ≡ left", "pub same : Small p left")
