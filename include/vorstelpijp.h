@@ -1,6 +1,7 @@
 /*
- * The proved code as C sees it: the structs and calls of crates/exports, field by field in the same order. 'rt staticlib exports'
- * makes target/staticlib/libexports.a, for x86-64, to link with. tools/check-linked holds these declarations to the proved ones.
+ * The proved code as C sees it: the structs and calls of crates/exports_c, field by field in the same order. 'rt lib' in that folder makes
+ * the archive, for x86-64, to link with; tools/check-linked makes it, too, as target/staticlib/libexports.a, and holds these declarations
+ * to the proved ones.
  */
 #ifndef VORSTELPIJP_H
 #define VORSTELPIJP_H

@@ -7,8 +7,8 @@ from checks import antt
 from checks.grounds import Grounds
 
 PRIVATE = "private/"
-# Crates of a request that is half done (W6, a customer's setup in one file): their theorems stand and are proved, and have no promise yet. A
-# crate leaves this list as soon as one of its theorems is promised, and no other crate comes into it.
+# Crates of a request that is half done (W6, a customer's setup in one file): what they state has no proof or no promise yet. A crate leaves
+# this list as soon as one of its statements is promised, and no other crate comes into it.
 BEGUN = ("setup_reader", "setup_trips")
 
 

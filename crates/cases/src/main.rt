@@ -10,7 +10,6 @@ ghost use Rattle.settled.specs.Cases.{cases, set_of, reached_of, seen_of};
 
 use controller::Controller;
 use locator::locate;
-use std::io;
 
 // R0, R1, R4, R5, R6, R8, R9, R12, R13, clocks, and 1 for a strike.
 const CASES: [[u8; 11]; 26] = [
@@ -118,18 +117,18 @@ fn seen(k: [u8; 11]) -> [u32; 8]
     ]
 }
 
-fn show(rt: &HostRuntime, numbers: [u32; 8]) -> io::Result<()> {
+// An output that cannot be written changes nothing: each case is run to its end.
+fn show(rt: &HostRuntime, numbers: [u32; 8]) {
     for number in numbers {
-        print!(rt; " {number}")?;
+        print!(rt; " {number}").is_ok();
     }
-    println!(rt)
+    println!(rt).is_ok();
 }
 
-fn main(rt: HostRuntime) -> io::Result<()> {
+fn main(rt: HostRuntime) {
     for i in 0..26 {
         let letter = char::from(b'a' + i);
-        print!(rt; "{letter}")?;
-        show(&rt, seen(numbered(i)))?;
+        print!(rt; "{letter}").is_ok();
+        show(&rt, seen(numbered(i)));
     }
-    Ok(())
 }
