@@ -24,7 +24,7 @@ STEPS = (
     "shell scripts", "the public contracts", "the rules and the promises", "the tools' own tests", "what the must-fail edits edit",
     "proofs, must-fail edits and programs", "what the must-fail edits are refused for",
     "the examples through the second program", "the examples and the desk", "the programs at their edges", "the header for C and the linked calls",
-    "the comparison of both programs",
+    "the comparison of both programs", "what each of several wrong operands is refused for",
 )
 
 
@@ -91,9 +91,9 @@ class Passes(GateTest):
         lines, _ = self.good_run()
         self.assertTrue(any(re.fullmatch(r"check-edits --said \S+/rt-ci", line) for line in lines), lines)
 
-    def test_no_edit_is_tried_a_second_time(self):
+    def test_only_edits_of_several_parts_are_tried_a_second_time(self):
         lines, _ = self.good_run()
-        self.assertFalse([line for line in lines if line.startswith("check-edits --try")])
+        self.assertEqual([line for line in lines if line.startswith("check-edits --try")], ["check-edits --try --several"])
 
     def test_the_second_program_is_read_before_the_proofs(self):
         lines, _ = self.good_run()
@@ -125,6 +125,7 @@ class Fails(GateTest):
 
     def test_the_last_steps(self):
         self.assertFails("the comparison of both programs", FAULT="compare")
+        self.assertFails("what each of several wrong operands is refused for", FAULT="check-edits --try")
 
     def test_programs_that_are_not_there(self):
         lines = self.assertFails("proofs, must-fail edits and programs", FAULT="run --note")
