@@ -176,13 +176,23 @@ def one_crate(telling, task, name, path, turn):
         raise CannotRun(f"{words} ended well, but made no {path.relative_to(TOP)}. It said:\n{told}")
 
 
+def rests_on(name):
+    """The files of the repository that a program's proof rests on."""
+    inside = (path for crate in needed(TOP, [name]) for part in PARTS for path in sorted((TOP / "crates" / crate / part).rglob("*")))
+    return [path for path in (TOP / "crates.txt", TOP / "HANDLES", *inside) if path.is_file()]
+
+
+def younger_than(name):
+    """The first of these files that was changed after the program was built, or nothing."""
+    built = binary(name).stat().st_mtime_ns
+    return next((path for path in rests_on(name) if path.stat().st_mtime_ns > built), None)
+
+
 def note_of(name):
     """The sums by which a program is noted: of all that its proof rests on, the toolchain's name with it, and of the program itself."""
     rests = hashlib.sha256(attempt(["rt", "version"])[1].encode())
-    for path in [TOP / "crates.txt", TOP / "HANDLES", *(path for crate in needed(TOP, [name]) for part in PARTS
-                                                      for path in sorted((TOP / "crates" / crate / part).rglob("*")))]:
-        if path.is_file():
-            rests.update(f"{path.relative_to(TOP)} {hashlib.sha256(path.read_bytes()).hexdigest()}\n".encode())
+    for path in rests_on(name):
+        rests.update(f"{path.relative_to(TOP)} {hashlib.sha256(path.read_bytes()).hexdigest()}\n".encode())
     return f"{rests.hexdigest()} {hashlib.sha256(binary(name).read_bytes()).hexdigest()}\n"
 
 

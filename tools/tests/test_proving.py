@@ -2,6 +2,8 @@
 import contextlib
 import io
 import os
+import pathlib
+import runpy
 import signal
 import subprocess
 import threading
@@ -15,6 +17,7 @@ from commands import CannotRun
 from progress import Progress
 from tests.trees import TreeTest
 
+RUN = runpy.run_path(str(proving.TOP / "tools" / "run"), run_name="run")
 SAID = ("rt: chose --jobs 2 for basics\n", "fn basics::put: proved\n", "logic=proved functions=1\n", "rt: chose --jobs 2 for text\n",
         "logic=proved functions=2\n", None, "rt: chose --jobs 2 for listing\n", "logic=proved functions=3\n",
         "linked target=x86_64-unknown-linux-gnu files=out/listing.o\n", "rt: running out/listing; to give it other input, run that file yourself\n")
@@ -185,6 +188,40 @@ class Noted(TreeTest):
         self.calls()
         self.files["crates/text/stdin"] = "more"
         self.assertEqual(self.calls(), [])
+
+    def younger(self, *changed):
+        """What is found to be younger than the program, where these files were changed after it was built, and no others."""
+        self.calls()
+        built = (self.top / "crates/text/out/text").stat().st_mtime_ns
+        for path in self.files:
+            time_of_it = built + (1 if path in changed else -1)
+            os.utime(self.top / path, ns=(time_of_it, time_of_it))
+        with mock.patch.object(proving, "TOP", self.top):
+            found = proving.younger_than("text")
+        return found and str(found.relative_to(self.top))
+
+    def noted_by_hand(self, younger):
+        """The status of `tools/run --note`, and the programs that it noted, where this file is younger than the program."""
+        noted, note_all = [], RUN["note_all"]
+        there = {"programs": lambda _: ["text"], "binary": lambda _: pathlib.Path(__file__), "younger_than": lambda _: younger, "note": noted.extend}
+        with mock.patch.dict(note_all.__globals__, there), contextlib.redirect_stderr(io.StringIO()) as heard:
+            status = note_all()
+        return status, noted, heard.getvalue()
+
+    def test_nothing_is_noted_of_a_program_that_is_older_than_a_source(self):
+        self.assertEqual(self.noted_by_hand(None), (0, ["text"], ""))
+        status, noted, said = self.noted_by_hand(proving.TOP / "crates/low/src/lib.rt")
+        self.assertEqual((status, noted), (1, []))
+        self.assertIn("crates/low/src/lib.rt was changed after text was built", said)
+
+    def test_a_program_that_is_younger_than_its_sources(self):
+        self.assertIsNone(self.younger())
+        self.assertIsNone(self.younger("crates/text/stdin", "version"))
+
+    def test_a_source_that_was_changed_after_the_program_was_built(self):
+        for path in ("crates/low/src/lib.rt", "crates/low/proofs/Low.antt", "crates/text/src/main.rt", "crates.txt"):
+            with self.subTest(path):
+                self.assertEqual(self.younger(path), path)
 
 
 class Stopped(unittest.TestCase):
