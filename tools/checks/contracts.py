@@ -8,13 +8,19 @@ import dataclasses
 import re
 
 from checks import antt, crates, fixed, products, source
-from checks.laws import BINDERS, NoForm, law_type, proof_of
+from checks.laws import WIDTHS, NoForm, binders_of, law_type, proof_of
 
 LAWS = "crates/one_answer/proofs/OneAnswer.antt"
 FORMS = "crates/one_answer/specs/OneAnswer.antt"
 MODULE = "Rattle.one_answer.specs.OneAnswer"
+# The traits that the code implements, each with the ghost members that say what its functions give or what clauses see of the type.
+TRAITS = {"From": ("from_gives",), "TryFrom": ("try_from_gives",), "AsSlice": ("items",), "Model": ("Value", "view")}
+# What a conversion gives, as one equation, so that it leaves no choice.
+GIVES = re.compile(r"\{ λ (\w+) (\w+)\. \2 ≡ (?!.*\b\2\b).* \}")
+CONVERSIONS = ("from_gives", "try_from_gives")
 # What the laws' types are made of, by the names that they have there.
-PARTS = {"OneAnswer": (MODULE, "OneAnswer"), "◌beside◌": (MODULE, "◌beside◌")}
+PARTS = {"OneAnswer": (MODULE, "OneAnswer"), "◌beside◌": (MODULE, "◌beside◌"), "ℕ": ("Rattle.std.specs.Prelude", "ℕ"), "Fits": ("mir.Val", "Fits")}
+PARTS |= {width: ("mir.Syntax", width) for width in WIDTHS.values()}
 
 
 @dataclasses.dataclass(frozen=True)
@@ -26,6 +32,7 @@ class Wanted:
     alias: str
     law: str
     type: str
+    binders: str
     proof: str = ""  # where it is known
 
 
@@ -77,11 +84,32 @@ def read_all(top, crate):
         readers[where] = reader
         wrong += [f"{where}:{line}: {what} is not known to this check" for line, what in reader.strange]
         wrong += [
-            f"{where}:{thing.line}: {thing.kind} {thing.name} holds a reference, so a signature would not show what is lent"
+            f"{where}:{thing.line}: {thing.kind} {thing.name} holds a reference to be written, so a signature would not show what is lent"
             for thing in reader.declared
-            if thing.kind in ("struct", "enum", "union", "type") and any(token.text in ("&", "&&") for token in thing.tokens)
+            if thing.public and thing.kind in ("struct", "enum", "union", "type") and holds_written(thing.tokens)
         ]
+        wrong += [f"{where}:{line}: {why}" for line, why in check_impls(reader)]
     return readers, wrong
+
+
+def holds_written(tokens):
+    """Whether a type's tokens have a reference through which it may be written."""
+    words = [token.text for token in tokens if token.kind != "lifetime"]
+    return any(one in ("&", "&&") and other == "mut" for one, other in zip(words, words[1:]))
+
+
+def check_impls(reader):
+    """Yields what the `impl` blocks of traits lack, by their lines: a trait that is known, its ghost members, a conversion with one answer."""
+    for line, trait, owner in reader.blocks:
+        if trait not in TRAITS:
+            yield line, f"an impl of {trait} for {owner}, a trait which this check does not know"
+        members = {one.name: one.stated for one in reader.members if (one.trait, one.owner) == (trait, owner)}
+        for name in TRAITS.get(trait, ()):
+            if name not in members:
+                yield line, f"an impl of {trait} for {owner} without `ghost {name}`"
+    for one in reader.members:
+        if one.name in CONVERSIONS and not GIVES.fullmatch(" ".join(one.stated.split())):
+            yield one.line, f"the conversion to {one.owner} does not say in one equation, `λ x y. y ≡ ..`, what it gives"
 
 
 def paths_of(words):
@@ -124,7 +152,7 @@ def wanted_of(top, crate):
         try:
             module = reads_module(crate, readers.values(), function)
             alias = alias_of(law)
-            wanted.append(Wanted(place, module, alias, law, law_type(function, alias), proof_of(function)))
+            wanted.append(Wanted(place, module, alias, law, law_type(function, alias), binders_of(function), proof_of(function)))
         except NoForm as why:
             wrong.append(f"{place}: {why}")
     return wanted, wrong
@@ -182,7 +210,7 @@ def check_laws(stated, wanted, brought):
             yield f"{LAWS}:{law.line}: {law.name} is the law of no public function"
         elif law.type != by_name[law.name].type:
             yield f"{LAWS}:{law.line}: {law.name} has to be of the type `{by_name[law.name].type}`, and is of the type `{law.type}`"
-        elif by_name[law.name].proof and (law.binders, law.body) != (BINDERS, by_name[law.name].proof):
+        elif by_name[law.name].proof and (law.binders, law.body) != (by_name[law.name].binders, by_name[law.name].proof):
             yield f"{LAWS}:{law.line}: {law.name} is shown by `{by_name[law.name].proof}`, which tools/check-contracts --write writes"
         if law.name in brought:
             yield f"{LAWS}:{law.line}: {law.name} is also the name of what a `use` line brings"

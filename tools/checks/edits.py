@@ -27,6 +27,7 @@ FOLLOWS = (
     r"^fn: not proved; it calls .*, which (?:is|are) not proved$",
     r"^fn: no proof: (?:expected answers in \S+; )?it calls .*, which (?:is|are) not proved$",
     r"^fn: not proved$",
+    r"^fn: not proved; it waits for the proof of `\w+`$",
     r"^gone: ",
 )
 
@@ -75,7 +76,7 @@ FACTS = (
 
 # What is promised and what is given are two types. These are tried last, when no shape fits.
 TYPES = (
-    ("differ", r"^error: .*, the two types (?:first differ where one has|differ only where one has|are) `",
+    ("differ", r"^error: .*, the two (?:types|sides) (?:first differ where one has|differ only where one has|are) `",
      "what is promised and what is given differ in a value"),
     ("type", r"^error: .*expected type `",
      "what is promised and what is given are two statements"),
@@ -289,8 +290,8 @@ def places_of(folder, text):
 
 
 def name_of(function):
-    """A function's name, behind that of its type."""
-    return "::".join(filter(None, (function.owner, function.name)))
+    """A function's name, behind that of its type, or of its `impl` of a trait as the prover names that."""
+    return "::".join(filter(None, (function.proved_as or function.owner, function.name)))
 
 
 def shared(places):

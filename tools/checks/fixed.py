@@ -22,51 +22,53 @@ States {K} {D} {R} {S} P Q = (κs : K) (a : D κs) (r : R κs) (s : S κs) → P
 
 LISTING = r"""#![tactic(auto)]
 
-use streams::{is_readable, read_full, write_all};
-use text::said;
+use streams::answer;
 
 fn main(rt: HostRuntime) {
-    let readable = is_readable(&mut rt.stdin());
-    let mut input = [0u8; lister::INPUT + 1];
-    let n = read_full(&mut rt.stdin(), &mut input);
-    let mut text = [0u8; lister::TEXT];
-    let k = lister::list(&input[..n], &mut text);
-    let shown: &[u8] = &text[..k];
-    let written = write_all(&mut rt.stdout(), &shown[..said(readable, shown)]);
-    let unread: &[u8] = b"standard input cannot be read\n";
-    write_all(&mut rt.stderr(), &unread[..said(!readable, unread)]);
-    let unwritten: &[u8] = b"standard output cannot be written\n";
-    write_all(&mut rt.stderr(), &unwritten[..said(!written, unwritten)]);
+    let mut room = [0u8; lister::INPUT + 1];
+    answer(&rt, &mut room, |input| lister::list(input));
 }
 """
 
 # The library through which the programs read and write.
 STREAMS = r"""#![tactic(auto)]
 
-ghost use Rattle.std.specs.Prelude.{◌≤◌, length};
+ghost use Rattle.std.specs.Prelude.{◌≤◌, length, IfOk};
 
+use std::convert::AsSlice;
+use std::io;
 use std::io::{Read, Write};
+use text::said;
 
-pub fn is_readable<R: Read>(from: &mut R) -> bool {
-    from.read(&mut []).is_ok()
-}
-
-pub fn read_full<R: Read>(from: &mut R, buf: &mut [u8]) -> usize
-    ensures { result ≤ length buf.new }
+pub fn read_full<R: Read>(from: &mut R, buf: &mut [u8]) -> io::Result<usize>
+    ensures { IfOk result (λ n. n ≤ length buf.new) }
 {
+    from.read(&mut [])?;
     let mut n: usize = 0;
     while n < buf.len() {
         match from.read(&mut buf[n..]) {
-            Ok(0) => return n,
+            Ok(0) | Err(_) => return Ok(n),
             Ok(got) => n += got,
-            Err(_) => return n,
         }
     }
-    n
+    Ok(n)
 }
 
-pub fn write_all<W: Write>(to: &mut W, bytes: &[u8]) -> bool {
-    to.write_all(bytes).is_ok()
+pub fn complain(rt: &HostRuntime, readable: bool, written: bool) {
+    let unread: &[u8] = b"standard input cannot be read\n";
+    let unwritten: &[u8] = b"standard output cannot be written\n";
+    let _ = rt.stderr().write_all(said(!readable, unread));
+    let _ = rt.stderr().write_all(said(!written, unwritten));
+}
+
+pub fn answer<T: AsSlice<u8> + Drop, F: Fn(&[u8]) -> T>(rt: &HostRuntime, room: &mut [u8], make: F)
+    requires { F.IsAlwaysCallable make }
+{
+    let came = read_full(&mut rt.stdin(), room);
+    let readable = came.is_ok();
+    let text = make(&room[..came.unwrap_or(0)]);
+    let written = rt.stdout().write_all(said(readable, text.as_slice()));
+    complain(rt, readable, written.is_ok());
 }
 """
 

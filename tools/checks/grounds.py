@@ -39,10 +39,12 @@ class Grounds:
         """The contracts of a library's public functions."""
         for reader in self.things.readers[crate]:
             uses = [use for line, text in reader.ghosts for use in antt.uses_of(antt.Item(line, text))]
-            for function in reader.functions:
-                if function.public:
-                    named = self.definitions.named_in(" ".join(function.stated), uses)
-                    yield Contract(crate, f"{crate}::{contracts.called(function)}", tuple(function.stated), frozenset(named))
+            hidden = {thing.name for thing in self.things.declared(crate, "struct", "enum") if not thing.public}
+            stated = [(contracts.called(function), function.stated) for function in reader.functions if function.public]
+            stated += [(f"{one.owner}::{one.name}", [one.stated]) for one in reader.members if one.owner not in hidden]
+            for called, clauses in stated:
+                named = self.definitions.named_in(" ".join(clauses), uses)
+                yield Contract(crate, f"{crate}::{called}", tuple(clauses), frozenset(named))
 
     def stated_in(self, path):
         """The laws of a file by their names: each one's type, and the definitions that it names, those of contracts in it too."""

@@ -9,6 +9,7 @@ import re
 from checks import antt
 
 BINDERS = "κs a x y s t p q"
+WIDTHS = {"u8": "w8", "u16": "w16", "u32": "w32", "u64": "w64", "usize": "w64"}
 CLAUSE = re.compile(r"\{\s*(.*?)\s*\}", re.S)
 
 
@@ -36,7 +37,9 @@ def lent_of(function):
             raise NoForm(f"its parameter {name} is a raw pointer, and no law speaks of that")
         if "&" in kind.split(" ") or "&&" in kind.split(" "):
             if not kind.startswith("& ") or kind.count("&") > 1:
-                raise NoForm(f"its parameter {name} lends something within another type, and no law speaks of that")
+                if re.search(r"&(?: '\w+)? mut\b", kind):
+                    raise NoForm(f"its parameter {name} lends something to be written within another type, and no law speaks of that")
+                continue  # within another type, to be read: no clause can name it after the call, and nothing can write it
             lent.append((not is_written(kind), index))
     return [index for _, index in sorted(lent)]
 
@@ -66,9 +69,26 @@ def seen_of(function):
     return seen
 
 
+def constants_of(function):
+    """What a function is generic over, which has to be constants: the name of each and its width."""
+    for name, kind in function.generics:
+        if kind not in WIDTHS:
+            raise NoForm(f"it is generic over {name}, and there is a law only for constants that are numbers")
+        yield name, WIDTHS[kind]
+
+
+def binders_of(function):
+    """The names that a law's clause binds: each constant with what holds it to its width, and then what every law has."""
+    return " ".join([f"{name} fits-{name}" for name, _ in constants_of(function)] + [BINDERS])
+
+
 def law_type(function, alias):
     """The type of a function's law."""
-    return f"OneAnswer {alias}.Post (λ κs r s. " + " beside ".join(term for term, _ in seen_of(function)) + ")"
+    constants = list(constants_of(function))
+    over = "".join(f"({name} : ℕ) (fits-{name} : Fits {width} {name}) " for name, width in constants)
+    post = " ".join([f"{alias}.Post"] + [f"{name} fits-{name}" for name, _ in constants])
+    seen = " beside ".join(term for term, _ in seen_of(function))
+    return (f"{over}→ OneAnswer ({post})" if over else f"OneAnswer {post}") + f" (λ κs r s. {seen})"
 
 
 def claims_of(function):

@@ -28,7 +28,7 @@ ABOUT = ("ℕ", "List ℕ", "List Call", "Bench", "Control", "Line")
 PREMISES = ("is_control_of a ≡ true",)
 # What a contract speaks of: the result, its bytes or its place, or what a lent buffer holds afterwards; and of it, by the arguments.
 GIVEN = re.compile(r"r|r\.now|r\.ref_ptr|s(?:\.\d+)+\.now")
-ARGUMENT = r"a(?:\.\d+)+(?:\.now|\.ref_ptr)?"
+ARGUMENT = r"a(?:\.\d+)+(?:\.[a-z]\w*)?"  # a field of it too, as of a record's four bytes
 TERM = rf"([^\s()]+)((?: {ARGUMENT})*)"
 DUE = tuple(re.compile(form) for form in (TERM, rf"length \({TERM}\)", rf"laid_at {ARGUMENT} 0 \({TERM}\)"))
 KEPT = re.compile(r"a(?:\.\d+)+\.now")

@@ -18,7 +18,7 @@ TOKEN = re.compile(
     re.X,
 )
 # what marks a thing and leaves it what it is: its layout, its symbol, what is derived for it, the tactics of its proof
-ATTRIBUTE = re.compile(r"\[ repr \( \w+ \) \]|\[ unsafe \( no_mangle \) \]|\[ derive \( [\w ,:]* \) \]|!? ?\[ (?:tactic|cycle) \( [^#]* \) \]")
+ATTRIBUTE = re.compile(r"\[ inline(?: \( always \))? \]|\[ repr \( \w+ \) \]|\[ unsafe \( no_mangle \) \]|\[ derive \( [\w ,:]* \) \]|!? ?\[ (?:tactic|cycle) \( [^#]* \) \]")
 QUALIFIERS = ("const", "unsafe", "async", "extern")
 OPENING = {"(": ")", "[": "]", "{": "}"}
 
@@ -51,6 +51,20 @@ class Function:
     clause_names: list
     body: list
     stated: list  # the clauses' own texts
+    trait: str = ""  # of a trait's `impl`, whose ghost members say what the function gives
+    proved_as: str = ""  # the name that the prover gives to that `impl`, as U8FromKind
+    generics: tuple = ()  # its own and its type's, without lifetimes: of a `const` the name and the type, of a type its name and nothing
+
+
+@dataclasses.dataclass(frozen=True)
+class Member:
+    """A ghost member of an `impl`: what it says of the trait's functions for the type."""
+
+    trait: str
+    owner: str
+    name: str
+    line: int
+    stated: str
 
 
 @dataclasses.dataclass
@@ -95,8 +109,11 @@ def past_clause(source, start):
 
 
 def expects_clause(tokens):
-    """Whether a brace behind these tokens opens a clause: `ensures {`, `ensures name {`, and so for requires and ghost."""
+    """Whether a brace behind these tokens opens a clause: `ensures {`, `ensures name {`, and so for requires and ghost; `ghost name = {` and
+    `ghost name: {` too, in an `impl` and in a struct."""
     last = tokens[-2:]
+    if last and last[-1].text in ("=", ":"):
+        return [token.text for token in tokens[-3:-2]] == ["ghost"]
     if not last or last[-1].kind != "word":
         return False
     return any(token.kind == "word" and token.text in CLAUSES for token in last)
@@ -161,6 +178,22 @@ def past_generics(tokens, start):
     raise Unreadable(f"line {tokens[start].line}: a < that is not closed")
 
 
+def generics_of(tokens):
+    """What stands between `<` and `>`, without the lifetimes: of a `const` its name and its type, of a type its name and nothing."""
+    for part in parts_of(tokens[1:-1]):
+        words = [token.text for token in part]
+        if words[0] == "const":
+            yield words[1], " ".join(words[3:])
+        elif part[0].kind != "lifetime":
+            yield words[0], ""
+
+
+def capitals(tokens):
+    """The words among some tokens, each with a capital, and of an array or a slice the word for it."""
+    words = ("Array" if token.text == "[" else token.text if token.kind == "word" else "" for token in tokens)
+    return "".join(word[:1].upper() + word[1:] for word in words)
+
+
 def parts_of(tokens):
     """Tokens taken apart at the commas that stand in no group."""
     parts, part, depth = [], [], 0
@@ -196,9 +229,24 @@ class Reader:
         self.tokens = tokens_of(source, self.ghosts)
         self.functions, self.declared, self.strange = [], [], []
         self.handed = []  # what `pub use` hands on: the line, and the words of its path
+        self.members = []  # the ghost members of `impl` blocks
+        self.blocks = []  # the `impl` blocks of traits: the line, the trait and the type
+        self.trait, self.proved_as = "", ""  # the trait whose `impl` is being read, and the prover's name for that
+        self.outer = ()  # what the `impl` is generic over
         self.items(0, len(self.tokens), modules, "")
-        if sum(token.kind == "clause" for token in self.tokens) != sum(len(function.clauses) for function in self.functions):
+        if self.clauses_in(self.tokens) != self.clauses_read():
             raise Unreadable("a clause that belongs to no function")
+
+    @staticmethod
+    def clauses_in(tokens):
+        """How many clauses there are among some tokens."""
+        return sum(token.kind == "clause" for token in tokens)
+
+    def clauses_read(self):
+        """How many clauses belong to what was read: functions, closures in their bodies, ghost members and ghost fields."""
+        functions = sum(len(function.clauses) + self.clauses_in(function.body) for function in self.functions)
+        fields = sum(self.clauses_in(thing.tokens) for thing in self.declared if thing.kind == "struct")
+        return functions + len(self.members) + fields
 
     def text(self, number):
         """The text of a token, or nothing past the end."""
@@ -251,6 +299,8 @@ class Reader:
             return end
         if word == "impl":
             return self.block_of(place, modules)
+        if word == "ghost":
+            return self.member(place, owner)
         if word in ("use", "const", "static", "type", "struct", "enum", "union"):
             end = self.past_item(place)
             if word == "use":
@@ -260,6 +310,14 @@ class Reader:
                 self.declared.append(Declared(word, self.text(place + 1), owner, modules, line, public, self.tokens[place:end]))
             return end
         raise Unreadable(f"line {line}: an item that begins with {word}, which this check does not know")
+
+    def member(self, place, owner):
+        """Reads `ghost NAME = { .. };` of an `impl`."""
+        name, *signs = (self.text(place + step) for step in (1, 2, 4))
+        if signs != ["=", ";"] or self.tokens[place + 3].kind != "clause":
+            raise Unreadable(f"line {self.tokens[place].line}: a ghost member that is no `ghost NAME = {{ .. }};`")
+        self.members.append(Member(self.trait, owner, name, self.tokens[place].line, self.text(place + 3)))
+        return place + 5
 
     def past_item(self, place):
         """The number of the token past an item that ends with its semicolon or, of a struct or an enum, with its block."""
@@ -277,28 +335,38 @@ class Reader:
         raise Unreadable("an item that does not end")
 
     def block_of(self, place, modules):
-        """Reads `impl TYPE { .. }`."""
-        line = self.tokens[place].line
-        place = past_generics(self.tokens, place + 1)
-        owner = ""
+        """Reads `impl TYPE { .. }` and `impl TRAIT for TYPE { .. }`."""
+        line, start = self.tokens[place].line, place + 1
+        place = past_generics(self.tokens, start)
+        generics = tuple(generics_of(self.tokens[start:place]))
+        owner = trait = arguments = ""
         while self.text(place) != "{":
-            if self.text(place) == "for":
-                raise Unreadable(f"line {line}: an impl of a trait, which this check does not know")
             if self.text(place) == "<":
-                place = past_generics(self.tokens, place)
+                past = past_generics(self.tokens, place)
+                arguments += "" if trait else capitals(self.tokens[place:past])
+                place = past
                 continue
-            owner = self.text(place) if self.tokens[place].kind == "word" else owner
-            place += 1
+            if self.text(place) == "for":
+                trait, owner = owner, ""
+            elif self.tokens[place].kind == "word":
+                owner = self.text(place)
+            place = past_group(self.tokens, place) if self.text(place) in OPENING else place + 1
             if place >= len(self.tokens):
                 raise Unreadable(f"line {line}: an impl without a block")
         end = past_group(self.tokens, place)
+        if trait:
+            self.blocks.append((line, trait, owner))
+        self.trait, self.outer = trait, generics
+        self.proved_as = owner[:1].upper() + owner[1:] + trait + arguments if trait else ""
         self.items(place + 1, end - 1, modules, owner)
+        self.trait, self.proved_as, self.outer = "", "", ()
         return end
 
     def function(self, place, modules, owner, public):
         """Reads a function from its `fn` on."""
-        name, line = self.text(place + 1), self.tokens[place].line
-        place = past_generics(self.tokens, place + 2)
+        name, line, start = self.text(place + 1), self.tokens[place].line, place + 2
+        place = past_generics(self.tokens, start)
+        generics = self.outer + tuple(generics_of(self.tokens[start:place]))
         if self.text(place) != "(":
             raise Unreadable(f"line {line}: fn {name} without its parameters")
         past = past_group(self.tokens, place)
@@ -309,7 +377,8 @@ class Reader:
             raise Unreadable(f"line {line}: fn {name} has no body where one is expected")
         end = past_group(self.tokens, place)
         body = self.tokens[place:end]
-        self.functions.append(Function(name, owner, modules, line, public, parameters, answer, clauses, names, body, stated))
+        made = Function(name, owner, modules, line, public, parameters, answer, clauses, names, body, stated, self.trait, self.proved_as, generics)
+        self.functions.append(made)
         return end
 
     def answer(self, place):

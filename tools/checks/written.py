@@ -1,7 +1,6 @@
 """crates/one_answer/proofs/OneAnswer.antt, written anew from the signatures: what can be worked out is, and other proofs are kept."""
 from checks import antt, contracts
 from checks.definitions import stands_in, words_in
-from checks.laws import BINDERS
 
 # What the laws are made of: their types, and the proofs that are written here.
 PARTS = contracts.PARTS | {
@@ -27,7 +26,7 @@ def law_lines(law, there):
     if there is not None and there.type == law.type:
         clause = " ".join(filter(None, (law.law, there.binders, "=", there.body)))
     if law.proof:
-        clause = f"{law.law} {BINDERS} = {law.proof}"
+        clause = f"{law.law} {law.binders} = {law.proof}"
     return ["", f"pub {law.law} : {law.type}", clause]
 
 

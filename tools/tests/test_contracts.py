@@ -118,7 +118,7 @@ class LawTypes(ContractsTest):
         self.assertSource("pub fn idle(x: u8)\n    ensures { result ≡ result }\n{\n}\n", "nothing is seen of it")
 
     def test_a_lent_thing_in_another(self):
-        self.assertSource("pub fn pair(a: (&mut [u8], u8))\n    ensures { result ≡ result }\n{\n}\n", "lends something within another type")
+        self.assertSource("pub fn pair(a: (&mut [u8], u8))\n    ensures { result ≡ result }\n{\n}\n", "lends something to be written within another type")
 
     def test_an_answer_that_may_be_written(self):
         self.assertSource("pub fn part(a: &mut [u8]) -> &mut [u8]\n    ensures { result ≡ result }\n{\n    a\n}\n", "a law only for a part of a slice")
@@ -185,14 +185,51 @@ class Functions(ContractsTest):
     def test_a_type_that_is_named_like_a_clause(self):
         self.assertSource("impl ensures {\n    pub fn three() -> u8 {\n        1\n    }\n}\nfn four() {\n}\n", "crates/alpha/src/lib.rt: ")
 
-    def test_a_trait(self):
-        self.assertSource("impl Shown for Width {\n}\n", "an impl of a trait")
+    def test_a_clause_at_a_static(self):
+        self.assertSource("fn three() -> u8 {\n    1\n}\nstatic GHOST: u8 ensures { 1 } = 1;\n", "crates/alpha/src/lib.rt: ")
+
+    def test_a_ghost_member_of_another_form(self):
+        self.assertSource("impl Width {\n    ghost is: { 1 };\n}\n", "a ghost member that is no `ghost NAME = { .. };`")
 
     def test_a_comment_in_a_clause(self):
         self.assertSource("pub fn three() -> u8\n    ensures { λ r. -- }\n r ≡ 1 }\n{\n    1\n}\n", "a clause with a comment")
 
     def test_what_cannot_be_read(self):
         self.assertSource("macro_rules! f { () => {} }\n", "which this check does not know")
+
+
+class Impls(ContractsTest):
+    """The traits that a library's types have."""
+
+    FROM = "impl From<Width> for u8 {\n    ghost from_gives = { λ w n. MEANS };\n\n    fn from(w: Width) -> u8 {\n        5\n    }\n}\n"
+
+    def conversion(self, means):
+        """A conversion that says this of what it takes and gives."""
+        return self.FROM.replace("MEANS", means)
+
+    def test_a_conversion_that_says_what_it_gives(self):
+        self.files[LIB] += self.conversion("n ≡ bits_of w")
+        self.assertRight()
+
+    def test_a_conversion_that_leaves_a_choice(self):
+        for means in ("n ≤ bits_of w", "bits_of w ≡ n", "n ≡ min n 5"):
+            with self.subTest(means):
+                self.files[LIB] = FILES[LIB] + self.conversion(means)
+                self.assertWrong("the conversion to u8 does not say in one equation")
+
+    def test_a_conversion_that_says_nothing(self):
+        self.assertSource("impl From<Width> for u8 {\n}\n", "an impl of From for u8 without `ghost from_gives`")
+
+    def test_a_trait_that_is_not_known(self):
+        self.assertSource("impl Shown for Width {\n}\n", "an impl of Shown for Width, a trait which this check does not know")
+
+    def test_a_ghost_field(self):
+        self.files[LIB] += "pub struct Small {\n    x: u8,\n    ghost small: { x < 3 },\n}\n"
+        self.assertRight()
+
+    def test_a_private_struct_that_holds_a_reference(self):
+        self.files[LIB] += "struct Part<'a> {\n    bytes: &'a [u8],\n}\n"
+        self.assertRight()
 
 
 class Handed(ContractsTest):

@@ -40,8 +40,9 @@ class Streams(ContractsTest):
         self.assertRight()
 
     def test_other_words(self):
-        for old, new in (("Err(_) => return n", "Err(_) => return 0"), ("buf[n..]", "buf[..]"), ("to.write_all(bytes)", "to.write_all(&bytes[1..])"),
-                         ("use std::io::{Read, Write};", "use alpha::{Read, Write};"), ("ensures { result ≤ length buf.new }", "ensures { 0 ≡ 0 }")):
+        for old, new in (("Err(_) => return Ok(n)", "Err(_) => return Ok(0)"), ("buf[n..]", "buf[..]"), ("from.read(&mut [])?;", "from.read(&mut [])?; return Ok(0);"),
+                         ("said(readable, text.as_slice())", "said(readable & (came.is_ok()), text.as_slice())"), ("said(!written, unwritten)", "said(written, unwritten)"),
+                         ("use std::io::{Read, Write};", "use alpha::{Read, Write};"), ("IfOk result (λ n. n ≤ length buf.new)", "0 ≡ 0")):
             with self.subTest(new):
                 self.files[self.LIB] = fixed.STREAMS
                 self.edit(self.LIB, old, new)
@@ -70,15 +71,15 @@ class Programs(ContractsTest):
     def test_a_choice_in_main(self):
         for choice in ("if k < 1 { return; }", "match k { _ => {} }", "while true { }", "for i in 0..3 { }", "loop { }", "return;"):
             with self.subTest(choice):
-                self.assertMain("    let shown", f"    {choice}\n    let shown")
+                self.assertMain("    answer(", f"    {choice}\n    answer(")
 
     def test_a_choice_by_a_sum(self):
-        self.assertMain("said(readable, shown)", "said(readable & (n != 2000), shown)")
-        self.assertMain("&input[..n]", "&input[..n - (n == 2000) as usize]")
-        self.assertMain("&text[..k]", "&text[..k % 2000]")
+        self.assertMain("list(input)", "list(&input[..input.len() - (input.len() == 2000) as usize])")
+        self.assertMain("INPUT + 1", "INPUT % 2000")
+        self.assertMain("&mut room", "&mut room[..2000]")
 
     def test_a_function_from_elsewhere(self):
-        self.assertMain("use text::said;", "use alpha::said;")
+        self.assertMain("use streams::answer;", "use alpha::answer;")
 
     def test_a_helper_whose_contract_says_nothing(self):
         self.assertMain("fn main(", "fn cut(n: usize) -> usize\n    ensures { 0 ≡ 0 }\n{\n    if n == 2000 { 0 } else { n }\n}\n\nfn main(")
@@ -95,7 +96,7 @@ class Programs(ContractsTest):
         self.files["crates/rooms/src/main.rt"] = fixed.PROGRAMS["rooms"]
         self.assertRight()
         self.files["crates/rooms/src/main.rt"] = fixed.LISTING
-        self.assertWrong("rooms decides nothing, so it is held to its words: line 8: `lister :: INPUT")
+        self.assertWrong("rooms decides nothing, so it is held to its words: line 6: `lister :: INPUT")
 
     def test_a_public_function(self):
         self.files[self.MAIN] += "pub fn offered() -> u8 {\n    1\n}\n"

@@ -303,6 +303,8 @@ class Places(EditsTest):
     def places(self, *old):
         """The places of replacements of these texts, in a source that has a constant, a function and one of a type."""
         file = "const TWO: u8 = 2;\n\nfn one(x: u8) -> u8\n    ensures { result ≡ x }\n{\n    x + 0\n}\n\nimpl Two {\n    fn one() -> u8\n    {\n        1\n    }\n}\n"
+        file += "\nimpl From<Two> for u8 {\n    fn from(two: Two) -> u8 {\n        22\n    }\n}\n"
+        file += "\nimpl From<[u8; 4]> for Two {\n    fn from(four: [u8; 4]) -> Two {\n        44\n    }\n}\n"
         self.files[LIB] = file
         self.write()
         text = "file: src/lib.rt\n" + "".join(f"old: {words}\nnew: {words}9\n" for words in old)
@@ -310,6 +312,9 @@ class Places(EditsTest):
 
     def test_places(self):
         self.assertEqual(self.places("    x + 0", "        1", "const TWO: u8 = 2", "fn one(x: u8)"), ["one", "Two::one", "", ""])
+
+    def test_places_in_the_impl_of_a_trait(self):
+        self.assertEqual(self.places("        22", "        44"), ["U8FromTwo::from", "TwoFromArrayU84::from"])
 
 
 class Classes(unittest.TestCase):
@@ -364,6 +369,7 @@ class Classes(unittest.TestCase):
             "`add-k`: `omega`: the part `.fits` of the goal does not follow from what it read. All of that holds, and the part fails, at `x`": "omega",
             "`loop-again`: computed as far as they go, the two types differ only where one has `0` (expected) and the other has `1` (found)": "differ",
             "`returns`: as printed, the two types first differ where one has `0`": "differ",
+            "`loop-i-preserved`: as printed, the two sides first differ where one has `(one_of n)` (expected)": "differ",
             "`returns`: `rw` has no last argument, so what it leaves must be a path whose two ends are equal, and `Path ℕ 1 2` is none": "rewrite",
             "`above`: expected type `8 < kind`, but this has type `9 < kind`": "type",
         }

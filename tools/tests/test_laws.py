@@ -44,6 +44,11 @@ class Signatures(ContractsTest):
         self.assertSeen("(c: &mut Chip, x: u8) -> Answer", "r", "s.0.now")
         self.assertSeen("(c: &Chip, x: u8) -> Answer", "r", "s.0.now")
 
+    def test_what_is_lent_to_be_read_within_another_type(self):
+        self.assertSeen("(x: Option<&[u8]>, y: &mut [u8]) -> u8", "r", "s.1.0.now")
+        with self.assertRaisesRegex(laws.NoForm, "to be written within another type"):
+            laws.seen_of(declared("(x: Option<&'a mut [u8]>) -> u8"))
+
     def test_what_is_lent_to_a_method(self):
         function = function_of("impl Chip {\n    pub fn f(&mut self) -> u8 {\n    }\n}\n")
         self.assertEqual(laws.seen_of(function), [("r", "result"), ("s.0.now", "self.new")])
@@ -59,6 +64,19 @@ class Signatures(ContractsTest):
         self.assertEqual(laws.proof_of(declared("(x: &mut [u8]) -> u8", "(result ≡ f x) × (x.new ≡ g)")), "")
         self.assertEqual(laws.proof_of(declared("(x: u8) -> u8", "result ≡ false → Counts x")), "")
         self.assertEqual(laws.proof_of(declared("(x: u8) -> u8", "let y = x; result ≡ y")), "")
+
+    def test_what_is_generic_over_constants(self):
+        text = "impl<const N: usize> Text<N> {\n    pub fn f<'a, const M: u8>(&mut self) -> u8\n        ensures { self.new ≡ [] }\n    {\n    }\n}\n"
+        function = function_of(text)
+        self.assertEqual(
+            laws.law_type(function, "F"),
+            "(N : ℕ) (fits-N : Fits w64 N) (M : ℕ) (fits-M : Fits w8 M) → OneAnswer (F.Post N fits-N M fits-M) (λ κs r s. r beside s.0.now)",
+        )
+        self.assertEqual(laws.binders_of(function), "N fits-N M fits-M κs a x y s t p q")
+
+    def test_what_is_generic_over_a_type(self):
+        with self.assertRaisesRegex(laws.NoForm, "generic over F, and there is a law only for constants"):
+            laws.law_type(declared("<F: Fn(u8) -> u8>(f: F) -> u8"), "F")
 
     def test_what_is_lent_to_be_read_needs_its_clause(self):
         one, read = "result ≡ f x.now", "x.exit.now ≡ x.entry.now"

@@ -1,14 +1,13 @@
 -- Whole records on a controller that stands alone (document 01, kinds 1, 3 and 4 of the table of kinds). That they do the same on the
 -- bench is said, and shown, in the crate `every_record`.
-use Rattle.std.specs.Prelude.{ℕ}
+use Rattle.std.specs.Prelude.{ℕ, Result, Ok, Err}
 use Rattle.basics.specs.Choice.{when◌then◌else◌}
 use Rattle.answer.specs.Answer.{plain_of}
 use Rattle.controller.specs.declared.chip.Controller.{Controller}
 use Rattle.record.specs.Decode.{decode_of, number_of}
 use Rattle.record.specs.declared.event.Event.{Event}
 use Rattle.record.specs.declared.event.Event.TheVariants.{Write, Read, Clocks, Strike, Reset, Cycle, Fetches, Levels, Locate}
-use Rattle.record.specs.declared.kinds.Decoded.{Decoded}
-use Rattle.record.specs.declared.kinds.Decoded.TheVariants.{Known, Refused}
+use Rattle.record.specs.declared.kinds.Refusal.{Refusal}
 use Rattle.alone.specs.Events.{told, on_write, on_read, on_clocks, on_strike, on_reset}
 use Rattle.alone.specs.declared.events.Told.{Told}
 
@@ -29,9 +28,9 @@ on_event c kind (Levels hs da0) = idle c kind
 on_event c kind Locate = idle c kind
 
 -- a decoded record: its event is done; or it is refused, with its number and a zero body, and the controller does not change
-unfoldable pub on_decoded : Controller → ℕ → Decoded → Told
-on_decoded c kind (Known event) = on_event c kind event
-on_decoded c kind (Refused refusal) = told c (plain_of kind (number_of (Refused refusal)))
+unfoldable pub on_decoded : Controller → ℕ → Result Event Refusal → Told
+on_decoded c kind (Ok event) = on_event c kind event
+on_decoded c kind (Err refusal) = told c (plain_of kind (number_of (Err refusal)))
 
 -- a record: decoded before the controller sees it
 unfoldable pub alone_of : ℕ → Controller → ℕ → ℕ → ℕ → Told

@@ -14,6 +14,8 @@ pub struct Told {
     pub answer: Answer,
 }
 
+// A write. The functions of this file stay with their events' own fields, as the enum names them, and the record's kind.
+#[tactic(auto, unfolding(crate::specs::Events::on_write))]
 pub fn on_write(c: Controller, kind: u8, rs: bool, value: u8) -> Told
     ensures { result ≡ on_write c kind rs value }
 {
@@ -22,6 +24,7 @@ pub fn on_write(c: Controller, kind: u8, rs: bool, value: u8) -> Told
     Told { controller, answer }
 }
 
+#[tactic(auto, unfolding(crate::specs::Events::on_read))]
 pub fn on_read(c: Controller, kind: u8, rs: bool) -> Told
     ensures { result ≡ on_read c kind rs }
 {
@@ -31,6 +34,7 @@ pub fn on_read(c: Controller, kind: u8, rs: bool) -> Told
     Told { controller, answer }
 }
 
+#[tactic(auto, unfolding(crate::specs::Events::on_clocks))]
 pub fn on_clocks(c: Controller, kind: u8, n: u16) -> Told
     ensures { result ≡ on_clocks c kind n }
 {
@@ -39,6 +43,7 @@ pub fn on_clocks(c: Controller, kind: u8, n: u16) -> Told
     Told { controller, answer }
 }
 
+#[tactic(auto, unfolding(crate::specs::Events::on_strike))]
 pub fn on_strike(c: Controller, kind: u8) -> Told
     ensures { result ≡ on_strike c kind }
 {
@@ -47,6 +52,7 @@ pub fn on_strike(c: Controller, kind: u8) -> Told
     Told { controller, answer }
 }
 
+#[tactic(auto, unfolding(crate::specs::Events::on_reset))]
 pub fn on_reset(c: Controller, kind: u8) -> Told
     ensures { result ≡ on_reset c kind }
 {

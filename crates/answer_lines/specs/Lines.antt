@@ -1,5 +1,5 @@
 -- The lines of answers (document 01, "Records and what comes back", the listing program).
-use Rattle.std.specs.Prelude.{ℕ, ◌%◌, Bool, true, false, ◌&&◌, List, [], ◌∷◌, ◌++◌, eqb, leb}
+use Rattle.std.specs.Prelude.{ℕ, ◌%◌, Bool, true, false, ◌&&◌, List, [], ◌∷◌, ◌++◌, eqb, leb, get_or}
 use Rattle.answer.specs.Answer.{bytes_of}
 use Rattle.answer.specs.declared.Answer.{Answer}
 use Rattle.text.specs.Hex.{hex_of}
@@ -8,7 +8,7 @@ use Rattle.text.specs.Lines.{newline}
 -- The old program marked some answers, and the listing still does: those of kind 6 with the RAM flag, the lowest of the flags, and a
 -- select of 1 to 6.
 unfoldable pub odd_of : Answer → Bool
-odd_of a = eqb a.kind 6 && eqb (a.b2 % 2) 1 && leb 1 a.b0 && leb a.b0 6
+odd_of a = eqb a.kind 6 && eqb (get_or a.body 2 0 % 2) 1 && leb 1 (get_or a.body 0 0) && leb (get_or a.body 0 0) 6
 
 -- ` odd`
 abbrev pub mark : List ℕ

@@ -1,12 +1,11 @@
 // Answers on lines.
-ghost use Rattle.std.specs.Prelude.{◌≡◌, ◌*◌, ◌≤◌, length};
-ghost use Rattle.basics.specs.Lay.{Writes};
-ghost use Rattle.text.specs.Lines.{per_line, rows_of};
-ghost use Rattle.answer_lines.specs.Lines.{odd_of, line_end_of};
-ghost use Rattle.answer_lines.specs.Marked.{answer_of, marked_of, behind_lines, put_lines, WritesLines};
+ghost use Rattle.std.specs.Prelude.{◌≡◌, length};
+ghost use Rattle.text.specs.Lines.{per_line};
+ghost use Rattle.text.specs.private.Adds.{Adds};
+ghost use Rattle.answer_lines.specs.Lines.{odd_of};
+ghost use Rattle.answer_lines.specs.Marked.{answer_of, marked_of, with_lines};
 
-use basics::{has_room, put};
-use text::{PER_LINE, put_hex};
+use text::{PER_LINE, Text};
 
 // How long a line is at most: digits, the mark and the end.
 pub const MARKED: usize = text::LINE + 4;
@@ -19,53 +18,26 @@ fn is_odd(answer: &[u8]) -> bool
     (answer[0] == 6) & (answer[4] % 2 == 1) & (1 <= answer[2]) & (answer[2] <= 6)
 }
 
-fn line_end(text: &mut [u8], p: usize, odd: bool) -> usize
-    ensures { Writes text.old text.new p result (line_end_of odd) }
-{
-    if odd {
-        return put(text, p, b" odd\n");
-    }
-    put(text, p, b"\n")
-}
-
 // An answer's digits, with the mark where it is due.
-fn line(text: &mut [u8], p: usize, answer: &[u8]) -> usize
+fn put_line<const N: usize>(text: &mut Text<N>, answer: &[u8])
     requires { length answer.now ≡ per_line }
-    ensures { Writes text.old text.new p result (marked_of answer.now) }
+    ensures { Adds N text.old text.new (marked_of answer.now) }
 {
-    let end = put_hex(text, p, answer);
-    line_end(text, end, is_odd(answer))
+    text.put_hex(answer);
+    let end: &[u8] = if is_odd(answer) { b" odd\n" } else { b"\n" };
+    text.put(end);
 }
 
-// The lines of the first n answers.
-fn lines(text: &mut [u8], p: usize, answers: &[u8], n: usize) -> usize
-    requires { per_line * n ≤ length answers.now }
-    ensures { Writes text.old text.new p result (rows_of marked_of n answers.now) }
-{
-    let mut q = p;
-    let mut i: usize = 0;
-    while i < n {
-        let from = PER_LINE * i;
-        q = line(text, q, &answers[from..from + PER_LINE]);
-        i += 1;
-    }
-    q
-}
-
-// Lays a line for each whole answer among some bytes from at on, and gives the place behind them; where lines that all have the mark would
-// have no room, changes nothing and gives at back.
-pub fn put_answers(text: &mut [u8], at: usize, answers: &[u8]) -> usize
-    ensures place { result ≡ behind_lines text.old at answers.now }
-    ensures laid { text.new ≡ put_lines text.old at answers.now }
+// Puts a line for each whole answer among some bytes at the end of a text; where lines that all have the mark would have no room, changes
+// nothing.
+pub fn put_answers<const N: usize>(text: &mut Text<N>, answers: &[u8])
+    ensures put { text.new ≡ with_lines N text.old answers.now }
     ensures kept { answers.exit.now ≡ answers.entry.now }
-    ensures next { WritesLines text.old text.new at result answers.now }
 {
-    let n = answers.len() / PER_LINE;
-    if text.len() / MARKED < n {
-        return at;
+    if text.room_left() / MARKED < answers.len() / PER_LINE {
+        return;
     }
-    if has_room(text.len(), at, MARKED * n) {
-        return lines(text, at, answers, n);
+    for answer in answers.chunks_exact(PER_LINE) {
+        put_line(text, answer);
     }
-    at
 }

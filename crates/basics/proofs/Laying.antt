@@ -10,7 +10,9 @@ use native.Mathlib.Omega.{arith}
 use lib.Dec.{leb}
 use borrow.Author.Tests.{le-leb, lt-leb, leb-true, leb-false}
 use lib.ListN.{length, get_or, set, take, drop, length-append, length-take, length-drop, take-append-drop}
-use lib.Seq.{take_at, drop_at, drop-drop, sets, sets-eq, take-suc}
+use lib.Seq.{take_at, take-length, drop_at, drop-drop, sets, sets-eq, take-suc}
+use borrow.Rule.Slice.PartMut.{put_mid}
+use Rattle.std.proofs.lemmas.Slice.{put_mid-paste}
 use Rattle.basics.specs.Lay.{laid_at, room_at, put_at, behind_of, Laid, Writes}
 use Rattle.basics.proofs.Cases.{if_yes, if_no}
 use Rattle.basics.proofs.Tests.{lt-or-ge}
@@ -42,6 +44,13 @@ module _ (t : List ℕ) (p : ℕ) where
   pub laid-sets : (w : List ℕ) → p + length w ≤ length t → sets t p w ≡ laid_at t p w
   unfolding laid_at
   laid-sets w h = sets-eq w t p h
+
+  -- a copy of w into the part of the buffer from p on lays it: k is the part's length
+  pub part_laid : (k : ℕ) (w : List ℕ) → length w ≡ k → put_mid p k t w ≡ laid_at t p w
+  unfolding laid_at
+  part_laid k w h =
+      put_mid-paste p k t w w (length w) refl h refl
+      ∙ ap (λ (l : List ℕ). take p t ++ l ++ drop (p + length w) t) (take-length w)
 
   -- a store with room lays its bytes, and one without leaves the buffer
   pub put-has-room : (w : List ℕ) → p + length w ≤ length t → put_at t p w ≡ laid_at t p w

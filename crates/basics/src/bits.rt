@@ -6,7 +6,7 @@ ghost use Rattle.basics.specs.Bits.{num, word_of, high_of, low_of};
 pub fn number(yes: bool) -> u8
     ensures { result ≡ num yes }
 {
-    if yes { 1 } else { 0 }
+    u8::from(yes)
 }
 
 // What a flag adds to a byte of flags: its weight where it is set, else 0.
@@ -21,19 +21,21 @@ pub fn flag(set: bool, weight: u8) -> u8
 pub fn word(high: u8, low: u8) -> u16
     ensures { result ≡ word_of high low }
 {
-    256 * (high as u16) + (low as u16)
+    u16::from_be_bytes([high, low])
 }
 
 // Its high byte.
 pub fn high(x: u16) -> u8
     ensures { result ≡ high_of x }
 {
-    (x / 256) as u8
+    let [high, _] = x.to_be_bytes();
+    high
 }
 
 // Its low byte.
 pub fn low(x: u16) -> u8
     ensures { result ≡ low_of x }
 {
-    (x % 256) as u8
+    let [_, low] = x.to_be_bytes();
+    low
 }

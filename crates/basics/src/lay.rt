@@ -3,31 +3,23 @@ ghost use Rattle.std.specs.Prelude.{◌≡◌, ◌+◌, ◌≤◌, leb, length};
 ghost use Rattle.basics.specs.Lay.{laid_at, behind_of, put_at, Writes};
 
 // Lays the bytes of src where the caller has shown that they have room.
+#[tactic(auto, using(crate::proofs::Laying::part_laid))]
 fn lay(dst: &mut [u8], at: usize, src: &[u8])
     requires { at + length src.now ≤ length dst.old }
     ensures { dst.new ≡ laid_at dst.old at src.now }
 {
-    let mut i: usize = 0;
-    while i < src.len() {
-        dst[at + i] = src[i];
-        i += 1;
-    }
+    dst[at..at + src.len()].copy_from_slice(src);
 }
 
 // Whether count bytes from at on have room in a buffer of room bytes.
 pub fn has_room(room: usize, at: usize, count: usize) -> bool
     ensures { result ≡ leb (at + count) room }
 {
-    if room < count {
-        return false;
-    }
-    if at <= room - count {
-        return true;
-    }
-    false
+    count <= room && at <= room - count
 }
 
 // Lays the bytes of src from at on and gives the place behind them; where they have no room, changes nothing and gives at back.
+// Stays a buffer with a place beside it: the room is the caller's own, and what it holds besides is part of what is promised.
 pub fn put(dst: &mut [u8], at: usize, src: &[u8]) -> usize
     ensures place { result ≡ behind_of dst.old at src.now }
     ensures laid { dst.new ≡ put_at dst.old at src.now }

@@ -7,10 +7,7 @@ use native.Mathlib.Omega.{arith}
 use lib.ListN.{length}
 use Rattle.basics.specs.Lay.{laid_at}
 use Rattle.basics.proofs.Laying.{length-laid}
-use Rattle.controller.specs.Chip as controller
-use Rattle.controller.specs.declared.chip.Controller.{Controller}
-use Rattle.multiplexer.specs.Chip as multiplexer
-use Rattle.multiplexer.specs.declared.chip.Multiplexer.{Multiplexer}
+use Rattle.bench.specs.declared.step.Bench.{Bench}
 use Rattle.replay.specs.Run.{written_of, returned_of, replay_of, output_of}
 use Rattle.replay.specs.declared.run.Replayed.{Replayed}
 use Rattle.replay.proofs.Runs.{replay-run, output-run}
@@ -24,15 +21,15 @@ unfolding fresh_run_of
 answers-have-room batch room = (sound batch room fresh_bench).has_room
 
 -- what the replay gives on chips that are fresh
-pub ran : (batch out : List ℕ) {out' : List ℕ} {r : Replayed} {c : Controller} {m : Multiplexer} → c ≡ controller.fresh_of → m ≡ multiplexer.fresh_of
-    → r ≡ replay_of batch out c m → out' ≡ output_of batch out c m
+pub ran : (batch out : List ℕ) {out' : List ℕ} {r : Replayed} {b : Bench} → b ≡ fresh_bench
+    → r ≡ replay_of batch out b → out' ≡ output_of batch out b
     → (r ≡ returned_of (fresh_run_of batch (length out))) × ((out' ≡ laid_at out 0 (written_of (fresh_run_of batch (length out)).answers)) × ((batch ≡ batch) × Bounded batch out out' r))
 unfolding fresh_run_of
-ran batch out {out'} {r} {c} {m} ec em er eo =
+ran batch out {out'} {r} {b} eb er eo =
     let run = fresh_run_of batch (length out) in
     let s = sound batch (length out) fresh_bench in
-    let returned : r ≡ returned_of run = rw (ec, em) at (er ∙ replay-run batch out c m) in
-    let output : out' ≡ laid_at out 0 (written_of run.answers) = rw (ec, em) at (eo ∙ output-run batch out c m) in
+    let returned : r ≡ returned_of run = rw eb at (er ∙ replay-run batch out b) in
+    let output : out' ≡ laid_at out 0 (written_of run.answers) = rw eb at (eo ∙ output-run batch out b) in
     let bounded : Bounded batch out out' r =
     record {
       same = ap length output ∙ length-laid out 0 (written_of run.answers) (omega (arith, length-written run.answers, s.has_room));

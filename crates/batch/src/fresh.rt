@@ -4,8 +4,7 @@ ghost use Rattle.basics.specs.Lay.{laid_at};
 ghost use Rattle.replay.specs.Run.{written_of, returned_of};
 ghost use Rattle.batch.specs.Fresh.{fresh_run_of, Bounded};
 
-use controller::Controller;
-use multiplexer::Multiplexer;
+use bench::Bench;
 use replay::{Replayed, replay};
 
 // How many bytes a program takes at most.
@@ -24,5 +23,5 @@ pub fn replay_fresh(batch: &[u8], out: &mut [u8]) -> Replayed
     ensures batch { batch.exit.now ≡ batch.entry.now }
     ensures bounds { Bounded batch.now out.old out.new result }
 {
-    replay(batch, out, Controller::fresh(), Multiplexer::fresh())
+    replay(batch, out, Bench::fresh())
 }

@@ -1,6 +1,6 @@
 -- What a record does to the two chips, and what is answered (document 01, "Records and what comes back"). Neither chip sees
 -- the other: each event goes to one of them, and the other stays as it is.
-use Rattle.std.specs.Prelude.{ℕ, Bool}
+use Rattle.std.specs.Prelude.{ℕ, Bool, Result, Ok, Err}
 use Rattle.basics.specs.Choice.{when◌then◌else◌}
 use Rattle.answer.specs.Answer.{done_of, plain_of}
 use Rattle.answer.specs.declared.Answer.{Answer}
@@ -10,8 +10,7 @@ use Rattle.multiplexer.specs.declared.chip.Multiplexer.{Multiplexer}
 use Rattle.record.specs.Decode.{decode_of, number_of}
 use Rattle.record.specs.declared.event.Event.{Event}
 use Rattle.record.specs.declared.event.Event.TheVariants.{Write, Read, Clocks, Strike, Reset, Cycle, Fetches, Levels, Locate}
-use Rattle.record.specs.declared.kinds.Decoded.{Decoded}
-use Rattle.record.specs.declared.kinds.Decoded.TheVariants.{Known, Refused}
+use Rattle.record.specs.declared.kinds.Refusal.{Refusal}
 use Rattle.alone.specs.Events as alone
 use Rattle.alone.specs.declared.events.Told.{Told}
 use Rattle.bodies.specs.Bodies.{bus_body_of, shown_body_of, levels_body_of, located_answer_of}
@@ -65,9 +64,9 @@ on_event b kind Locate = on_locate b kind
 
 -- A decoded record: its event is done; or it is refused, with its number and a zero body, and neither chip changes.
 -- Decision: the answer's first byte is the kind byte as it came, of an unknown kind too.
-unfoldable pub on_decoded : Bench → ℕ → Decoded → Stepped
-on_decoded b kind (Known event) = on_event b kind event
-on_decoded b kind (Refused refusal) = record { bench = b; answer = plain_of kind (number_of (Refused refusal)) }
+unfoldable pub on_decoded : Bench → ℕ → Result Event Refusal → Stepped
+on_decoded b kind (Ok event) = on_event b kind event
+on_decoded b kind (Err refusal) = record { bench = b; answer = plain_of kind (number_of (Err refusal)) }
 
 -- a record: decoded before either chip sees it
 unfoldable pub step_of : Bench → ℕ → ℕ → ℕ → ℕ → Stepped

@@ -1,5 +1,6 @@
 // One record on the bench.
 ghost use Rattle.std.specs.Prelude.{◌≡◌};
+ghost use Rattle.bench.specs.Fresh.{fresh_bench};
 ghost use Rattle.bench.specs.Step.{with_controller, with_multiplexer, on_reset, on_cycle, on_fetches, on_levels, on_locate, on_event, step_of};
 
 use alone::Told;
@@ -8,7 +9,7 @@ use bodies::{bus_answer, levels_answer, located_answer, shown_answer};
 use controller::Controller;
 use locator::locate;
 use multiplexer::Multiplexer;
-use record::{Decoded, Event, decode};
+use record::{Event, Record, decode, number};
 
 #[derive(Clone, Copy)]
 pub struct Bench {
@@ -24,47 +25,58 @@ pub struct Stepped {
 }
 
 impl Bench {
+    // Both chips as they start.
+    pub fn fresh() -> Bench
+        ensures { result ≡ fresh_bench }
+    {
+        Bench {
+            controller: Controller::fresh(),
+            multiplexer: Multiplexer::fresh(),
+        }
+    }
+
     fn with_controller(self, told: Told) -> Stepped
         ensures { result ≡ with_controller self told }
     {
-        let controller = told.controller;
-        let multiplexer = self.multiplexer;
-        let bench = Bench {
-            controller,
-            multiplexer,
-        };
-        let answer = told.answer;
-        Stepped { bench, answer }
+        let Told { controller, answer } = told;
+        Stepped {
+            bench: Bench { controller, ..self },
+            answer,
+        }
     }
 
     fn with_multiplexer(self, multiplexer: Multiplexer, answer: Answer) -> Stepped
         ensures { result ≡ with_multiplexer self multiplexer answer }
     {
-        let controller = self.controller;
-        let bench = Bench {
-            controller,
-            multiplexer,
-        };
-        Stepped { bench, answer }
+        Stepped {
+            bench: Bench {
+                multiplexer,
+                ..self
+            },
+            answer,
+        }
     }
 
+    #[tactic(auto, using(basics::proofs::Cases::cases), unfolding(crate::specs::Step::on_reset))]
     fn on_reset(self, kind: u8, multiplexer: bool) -> Stepped
         ensures { result ≡ on_reset self kind multiplexer }
     {
         if multiplexer {
-            return self.with_multiplexer(self.multiplexer.reset(), Answer::plain(kind, 0));
+            self.with_multiplexer(self.multiplexer.reset(), Answer::plain(kind, 0))
+        } else {
+            self.with_controller(alone::on_reset(self.controller, kind))
         }
-        self.with_controller(alone::on_reset(self.controller, kind))
     }
 
+    #[tactic(auto, unfolding(crate::specs::Step::on_cycle))]
     fn on_cycle(self, kind: u8, address: u16, read: bool) -> Stepped
         ensures { result ≡ on_cycle self kind address read }
     {
         let bused = self.multiplexer.bus(address, read);
-        let multiplexer = bused.multiplexer;
-        self.with_multiplexer(multiplexer, bus_answer(kind, bused.cycle))
+        self.with_multiplexer(bused.multiplexer, bus_answer(kind, bused.cycle))
     }
 
+    #[tactic(auto, unfolding(crate::specs::Step::on_fetches))]
     fn on_fetches(self, kind: u8, n: u16) -> Stepped
         ensures { result ≡ on_fetches self kind n }
     {
@@ -72,25 +84,26 @@ impl Bench {
         self.with_multiplexer(multiplexer, shown_answer(kind, multiplexer.shown()))
     }
 
+    #[tactic(auto, unfolding(crate::specs::Step::on_levels))]
     fn on_levels(self, kind: u8, hs: bool, da0: bool) -> Stepped
         ensures { result ≡ on_levels self kind hs da0 }
     {
         let levelled = self.multiplexer.levels(hs, da0);
-        let multiplexer = levelled.multiplexer;
-        self.with_multiplexer(multiplexer, levels_answer(kind, levelled))
+        self.with_multiplexer(levelled.multiplexer, levels_answer(kind, levelled))
     }
 
+    #[tactic(auto, unfolding(crate::specs::Step::on_locate))]
     fn on_locate(self, kind: u8) -> Stepped
         ensures { result ≡ on_locate self kind }
     {
-        let answer = located_answer(kind, locate(self.controller));
         Stepped {
             bench: self,
-            answer,
+            answer: located_answer(kind, locate(self.controller)),
         }
     }
 
     // An event, on the one chip that it is for.
+    #[tactic(auto, unfolding(crate::specs::Step::on_event))]
     fn on_event(self, kind: u8, event: Event) -> Stepped
         ensures { result ≡ on_event self kind event }
     {
@@ -111,17 +124,17 @@ impl Bench {
     }
 
     // A record: its event is done, or the record is refused and both chips stay as they are.
-    pub fn step(self, kind: u8, hi: u8, lo: u8, value: u8) -> Stepped
-        ensures { result ≡ step_of self kind hi lo value }
+    #[tactic(auto, unfolding(crate::specs::Step::step_of, crate::specs::Step::on_decoded))]
+    pub fn step(self, sent: Record) -> Stepped
+        ensures { result ≡ step_of self sent.kind sent.hi sent.lo sent.value }
     {
-        let decoded = decode(kind, hi, lo, value);
-        let Decoded::Known(event) = decoded else {
-            let answer = Answer::plain(kind, decoded.number());
+        let decoded = decode(sent);
+        let Ok(event) = decoded else {
             return Stepped {
                 bench: self,
-                answer,
+                answer: Answer::plain(sent.kind, number(decoded)),
             };
         };
-        self.on_event(kind, event)
+        self.on_event(sent.kind, event)
     }
 }

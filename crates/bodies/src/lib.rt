@@ -6,49 +6,51 @@ ghost use Rattle.answer.specs.Answer.{done_of};
 ghost use Rattle.bodies.specs.Bodies.{bus_body_of, shown_body_of, levels_body_of, located_answer_of};
 
 use answer::Answer;
-use basics::number;
-use locator::Located;
+use locator::{Cell, Unlocated};
 use multiplexer::{Cycle, Levelled, Shown};
 
+#[tactic(auto, unfolding(crate::specs::Bodies::bus_body_of))]
 pub fn bus_answer(kind: u8, c: Cycle) -> Answer
     ensures { result ≡ done_of kind (bus_body_of c) }
 {
+    let cell = c.told_cell();
     Answer::done(
         kind,
-        c.select,
-        c.ticks,
-        c.flags,
-        c.cell.bank,
-        c.cell.row,
-        c.cell.column,
+        [
+            c.select,
+            c.ticks,
+            c.flags(),
+            cell.bank,
+            cell.row,
+            cell.column,
+        ],
     )
 }
 
+#[tactic(auto, unfolding(crate::specs::Bodies::shown_body_of))]
 pub fn shown_answer(kind: u8, s: Shown) -> Answer
     ensures { result ≡ done_of kind (shown_body_of s) }
 {
-    Answer::done(
-        kind,
-        s.high,
-        s.low,
-        s.cell.bank,
-        s.cell.row,
-        s.cell.column,
-        number(s.access),
-    )
+    let [high, low] = s.address.to_be_bytes();
+    let cell = s.cell;
+    let access = u8::from(s.access);
+    Answer::done(kind, [high, low, cell.bank, cell.row, cell.column, access])
 }
 
+#[tactic(auto, unfolding(crate::specs::Bodies::levels_body_of))]
 pub fn levels_answer(kind: u8, l: Levelled) -> Answer
     ensures { result ≡ done_of kind (levels_body_of l) }
 {
-    Answer::done(kind, l.edge, l.first, l.count, 0, 0, 0)
+    let edge = l.edge.map_or(0, u8::from);
+    Answer::done(kind, [edge, l.rows.first, l.rows.count, 0, 0, 0])
 }
 
-pub fn located_answer(kind: u8, l: Located) -> Answer
-    ensures { result ≡ located_answer_of kind l }
+#[tactic(auto, unfolding(crate::specs::Bodies::located_body_of))]
+pub fn located_answer(kind: u8, found: Result<Cell, Unlocated>) -> Answer
+    ensures { result ≡ located_answer_of kind found }
 {
-    let cell = l.cell();
-    let mut a = Answer::done(kind, cell.row, cell.column, 0, 0, 0, 0);
-    a.refusal = l.refusal();
-    a
+    match found {
+        Ok(cell) => Answer::done(kind, [cell.row, cell.column, 0, 0, 0, 0]),
+        Err(why) => Answer::plain(kind, u8::from(why)),
+    }
 }

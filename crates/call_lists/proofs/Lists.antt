@@ -3,7 +3,7 @@ use Prim.Native.Nat.{ℕ, zero, suc, ◌+◌, ◌-◌, ◌<◌, ◌≤◌}
 use mathlib.Core.Bool.{Bool, true, false, false≢true}
 use mathlib.Core.List.{List, [], ◌∷◌, ◌++◌}
 use mathlib.Core.Logic.{◌⊎◌, inl, inr, ⊎_elim}
-use mathlib.Core.Path.{◌≡◌, refl, sym, ap, ◌∙◌}
+use mathlib.Core.Path.{◌≡◌, refl, sym, ap, ap₂, ◌∙◌}
 use native.Mathlib.Omega.{arith}
 use lib.ListN.{length, take, drop, replicate, length-append, take-append-drop}
 use lib.Seq.{take_at, drop_at, length-take-le}
@@ -15,10 +15,12 @@ use Rattle.batch.specs.Fresh.{most_bytes}
 use Rattle.line.specs.Line.{fresh_line, outcome_of}
 use Rattle.line.specs.declared.calls.Line.{Line}
 use Rattle.cuts_text.specs.Asked.{call_head, cut_length, cut_of, first_of, length_of, list_in, is_list_of}
-use Rattle.cuts_text.specs.Made.{cut_text_of, text_shown, line_left, call_text_of, made_of}
-use Rattle.cuts_text.specs.Whole.{calls_text_in, no_call, cuts_text_of}
+use Rattle.cuts_text.specs.Made.{cut_text_of, text_shown, line_left, made_by, made_of}
+use Rattle.cuts_text.specs.Whole.{text_then, calls_text_in, no_call, cuts_text_of}
+use Rattle.cuts_text.specs.declared.made.Made.{Made}
 use Rattle.cuts_text.specs.declared.asked.Asked.{Asked}
-use Rattle.cuts_text.specs.declared.asked.Asked.TheVariants.{Nothing, Close, Cut}
+use Rattle.cuts_text.specs.declared.asked.Asked.TheVariants.{Close, Cut}
+use Rattle.std.specs.Prelude.{Option, Some, None}
 use Rattle.cuts_text.proofs.Listing.{list-none, list-ends, list-goes, cut-whole}
 use Rattle.call_lists.specs.Lists.{Handed, Ask, hand, shut, bytes_in, list_of, room_in, line_after, text_after, texts_of, Shows}
 
@@ -28,7 +30,7 @@ asked_of (hand h) = Cut (room_in h) (word_of h.long-high h.long-low)
 asked_of shut = Close
 
 -- what bytes begin with, by the first of them
-first-close : (rest : List ℕ) → first_of (2 ∷ rest) ≡ Close
+first-close : (rest : List ℕ) → first_of (2 ∷ rest) ≡ Some Close
 unfolding first_of when◌then◌else◌
 first-close rest = rw (ne_eqb (length (2 ∷ rest)) 0 (λ e. omega (arith, e)))
 
@@ -36,19 +38,19 @@ first-cut : (rest : List ℕ) → first_of (1 ∷ rest) ≡ cut_of (1 ∷ rest)
 unfolding first_of when◌then◌else◌
 first-cut rest = rw (ne_eqb (length (1 ∷ rest)) 0 (λ e. omega (arith, e)))
 
-first-other : (x : ℕ) (rest : List ℕ) → (x ≡ 2 → ⊥) → (x ≡ 1 → ⊥) → first_of (x ∷ rest) ≡ Nothing
+first-other : (x : ℕ) (rest : List ℕ) → (x ≡ 2 → ⊥) → (x ≡ 1 → ⊥) → first_of (x ∷ rest) ≡ None
 unfolding first_of when◌then◌else◌
 first-other x rest n m = rw (ne_eqb (length (x ∷ rest)) 0 (λ e. omega (arith, e)), ne_eqb x 2 n, ne_eqb x 1 m)
 
-cut_short : (rest : List ℕ) → length rest < call_head → cut_of rest ≡ Nothing
+cut_short : (rest : List ℕ) → length rest < call_head → cut_of rest ≡ None
 unfolding cut_of when◌then◌else◌
 cut_short rest h = rw (lt-ltb (length rest) call_head h)
 
-cut-lacks : (rest : List ℕ) → length rest - call_head < cut_length rest → call_head ≤ length rest → cut_of rest ≡ Nothing
+cut-lacks : (rest : List ℕ) → length rest - call_head < cut_length rest → call_head ≤ length rest → cut_of rest ≡ None
 unfolding cut_of when◌then◌else◌
 cut-lacks rest h g = rw (le-ltb (length rest) call_head g, lt-ltb (length rest - call_head) (cut_length rest) h)
 
-first_said : (a : Ask) (rest : List ℕ) → first_of (bytes_in a ++ rest) ≡ asked_of a
+first_said : (a : Ask) (rest : List ℕ) → first_of (bytes_in a ++ rest) ≡ Some (asked_of a)
 first_said shut rest = first-close rest
 first_said (hand h) rest =
     let all = bytes_in (hand h) ++ rest in
@@ -63,19 +65,9 @@ said-some : (a : Ask) → 1 ≤ length (bytes_in a)
 said-some shut = omega arith
 said-some (hand h) = omega arith
 
--- a call of a list, made
-module _ (a : Ask) (rest : List ℕ) where
-  abbrev all : List ℕ
-  all = bytes_in a ++ rest
-
-  used : length_of (first_of all) ≡ length (bytes_in a)
-  used = ap length_of (first_said a rest) ∙ said-length a
-
-  past : drop (length_of (first_of all)) all ≡ rest
-  past = rw used (drop_at (bytes_in a) rest (length (bytes_in a)) refl)
-
-  some : length_of (first_of all) ≡ 0 → ⊥
-  some e = let one = said-some a in absurd (omega (arith, used, e))
+-- what is behind a call
+past : (a : Ask) (rest : List ℕ) → drop (length_of (asked_of a)) (bytes_in a ++ rest) ≡ rest
+past a rest = rw (said-length a) (drop_at (bytes_in a) rest (length (bytes_in a)) refl)
 
 -- the bytes of a cut, behind its head
 cut-said : (h : Handed) (rest : List ℕ) → take (word_of h.long-high h.long-low) (h.bytes ++ rest) ≡ h.bytes
@@ -89,17 +81,12 @@ line-said : (l : Line) (a : Ask) (rest : List ℕ) → line_left l (bytes_in a +
 line-said l shut rest = refl
 line-said l (hand h) rest = ap (λ (b : List ℕ). (outcome_of l b (room_in h)).line) (cut-said h rest)
 
-call-text : (l : Line) (a : Ask) (rest : List ℕ) → call_text_of l (bytes_in a ++ rest) ≡ text_after l a
-unfolding call_text_of
-call-text l a rest = ap (text_shown l (bytes_in a ++ rest)) (first_said a rest) ∙ text-said l a rest
-
-made-line : (l : Line) (a : Ask) (rest : List ℕ) → (made_of l (bytes_in a ++ rest)).line ≡ line_after l a
+made-said : (l : Line) (a : Ask) (rest : List ℕ)
+    → made_of l (bytes_in a ++ rest) ≡ Some (record { line = line_after l a; used = length_of (asked_of a); text = text_after l a })
 unfolding made_of
-made-line l a rest = ap (line_left l (bytes_in a ++ rest)) (first_said a rest) ∙ line-said l a rest
-
-made-used : (l : Line) (rest : List ℕ) → (made_of l rest).used ≡ length_of (first_of rest)
-unfolding made_of
-made-used l rest = refl
+made-said l a rest =
+    ap (made_by l (bytes_in a ++ rest)) (first_said a rest)
+    ∙ ap₂ (λ (k : Line) (w : List ℕ). Some (record { line = k; used = length_of (asked_of a); text = w })) (line-said l a rest) (text-said l a rest)
 
 -- a list of calls is read as it was written
 list-said : (k : ℕ) (asks : List Ask) → length (list_of asks) ≤ k → list_in k (list_of asks) ≡ true
@@ -109,22 +96,24 @@ list-said k (a ∷ asks) h =
     let rest = list_of asks in
     let long : length (bytes_in a ++ rest) ≡ length (bytes_in a) + length rest = length-append (bytes_in a) rest in
     let one = said-some a in
-    list-goes k (bytes_in a ++ rest) (λ e. omega arith) (λ e. omega arith) (some a rest)
+    list-goes k (bytes_in a ++ rest) (λ e. omega arith) (λ e. omega arith) (first_said a rest)
     ∙ ap (list_in (k - 1)) (past a rest)
     ∙ list-said (k - 1) asks (omega arith)
 
 -- and its calls are made in order
-texts-goes : (k : ℕ) (l : Line) (rest : List ℕ) → (k ≡ 0 → ⊥) → (length_of (first_of rest) ≡ 0 → ⊥)
-    → calls_text_in k l rest ≡ call_text_of l rest ++ calls_text_in (k - 1) (made_of l rest).line (drop (length_of (first_of rest)) rest)
-unfolding calls_text_in when◌then◌else◌
-texts-goes k l rest left h =
+texts-goes : (k : ℕ) (l : Line) (a : Ask) (rest : List ℕ) → (k ≡ 0 → ⊥)
+    → calls_text_in k l (bytes_in a ++ rest) ≡ text_after l a ++ calls_text_in (k - 1) (line_after l a) rest
+unfolding calls_text_in
+texts-goes k l a rest left =
     let e : k ≡ suc (k - 1) = omega arith in
-    let one : calls_text_in (suc (k - 1)) l rest ≡ call_text_of l rest ++ calls_text_in (k - 1) (made_of l rest).line (drop (made_of l rest).used rest) =
-    rw (ne_eqb (length_of (first_of rest)) 0 h) in
-    ap (λ (n : ℕ). calls_text_in n l rest) e ∙ one ∙ ap (λ (n : ℕ). call_text_of l rest ++ calls_text_in (k - 1) (made_of l rest).line (drop n rest)) (made-used l rest)
+    let all = bytes_in a ++ rest in
+    let goes : Made → List ℕ = λ m. calls_text_in (k - 1) m.line (drop m.used all) in
+    ap (λ (n : ℕ). calls_text_in n l all) e
+    ∙ ap (λ (o : Option Made). text_then o goes) (made-said l a rest)
+    ∙ ap (λ (w : List ℕ). text_after l a ++ calls_text_in (k - 1) (line_after l a) w) (past a rest)
 
 texts-none : (k : ℕ) (l : Line) → calls_text_in k l [] ≡ []
-unfolding calls_text_in first_of when◌then◌else◌
+unfolding calls_text_in made_of first_of when◌then◌else◌
 texts-none zero l = refl
 texts-none (suc k) l = refl
 
@@ -135,24 +124,24 @@ texts-said k l (a ∷ asks) h =
     let rest = list_of asks in
     let long : length (bytes_in a ++ rest) ≡ length (bytes_in a) + length rest = length-append (bytes_in a) rest in
     let one = said-some a in
-    texts-goes k l (bytes_in a ++ rest) (λ e. omega arith) (some a rest)
-    ∙ rw (call-text l a rest, made-line l a rest, past a rest) (ap (λ (w : List ℕ). text_after l a ++ w) (texts-said (k - 1) (line_after l a) asks (omega arith)))
+    texts-goes k l a rest (λ e. omega arith)
+    ∙ ap (λ (w : List ℕ). text_after l a ++ w) (texts-said (k - 1) (line_after l a) asks (omega arith))
 
 -- what bytes begin with: a call and then the rest, or none
 data Begins (rest : List ℕ) : Type 0 where
-  nothing : length_of (first_of rest) ≡ 0 → Begins rest
+  nothing : first_of rest ≡ None → Begins rest
   call : (a : Ask) (more : List ℕ) → rest ≡ bytes_in a ++ more → Begins rest
 
 begins-cut : (rest : List ℕ) → Begins (1 ∷ rest)
-begins-cut [] = nothing (ap length_of (first-cut [] ∙ cut_short (1 ∷ []) (omega arith)))
-begins-cut (x ∷ []) = nothing (ap length_of (first-cut (x ∷ []) ∙ cut_short (1 ∷ x ∷ []) (omega arith)))
-begins-cut (x ∷ y ∷ []) = nothing (ap length_of (first-cut (x ∷ y ∷ []) ∙ cut_short (1 ∷ x ∷ y ∷ []) (omega arith)))
-begins-cut (x ∷ y ∷ z ∷ []) = nothing (ap length_of (first-cut (x ∷ y ∷ z ∷ []) ∙ cut_short (1 ∷ x ∷ y ∷ z ∷ []) (omega arith)))
+begins-cut [] = nothing (first-cut [] ∙ cut_short (1 ∷ []) (omega arith))
+begins-cut (x ∷ []) = nothing (first-cut (x ∷ []) ∙ cut_short (1 ∷ x ∷ []) (omega arith))
+begins-cut (x ∷ y ∷ []) = nothing (first-cut (x ∷ y ∷ []) ∙ cut_short (1 ∷ x ∷ y ∷ []) (omega arith))
+begins-cut (x ∷ y ∷ z ∷ []) = nothing (first-cut (x ∷ y ∷ z ∷ []) ∙ cut_short (1 ∷ x ∷ y ∷ z ∷ []) (omega arith))
 begins-cut (x ∷ y ∷ z ∷ w ∷ more) =
     let n = word_of z w in
     ⊎_elim
     (λ (lacks : length more < n).
-    nothing (ap length_of (first-cut (x ∷ y ∷ z ∷ w ∷ more) ∙ cut-lacks (1 ∷ x ∷ y ∷ z ∷ w ∷ more) (omega arith) (omega arith))))
+    nothing (first-cut (x ∷ y ∷ z ∷ w ∷ more) ∙ cut-lacks (1 ∷ x ∷ y ∷ z ∷ w ∷ more) (omega arith) (omega arith)))
     (λ (all : n ≤ length more).
     call (hand (record { room-high = x; room-low = y; long-high = z; long-low = w; bytes = take n more; long = sym (length-take-le n more all) })) (drop n more)
     (ap (λ (l : List ℕ). 1 ∷ x ∷ y ∷ z ∷ w ∷ l) (sym (take-append-drop n more))))
@@ -168,7 +157,7 @@ begins x rest =
     (λ (n : x ≡ 2 → ⊥).
     ⊎_elim
     (λ (e : x ≡ 1). rw e (begins-cut rest))
-    (λ (m : x ≡ 1 → ⊥). nothing (ap length_of (first-other x rest n m)))
+    (λ (m : x ≡ 1 → ⊥). nothing (first-other x rest n m))
     (same_or_not x 1))
     (same_or_not x 2)
 
@@ -184,7 +173,7 @@ written-call k rest (call a more q) h e further =
     let one = said-some a in
     let here : list_in (suc k) (bytes_in a ++ more) ≡ true = rw q at e in
     let long : length (bytes_in a ++ more) ≡ length (bytes_in a) + length more = length-append (bytes_in a) more in
-    let goes = list-goes (suc k) (bytes_in a ++ more) (λ z. omega arith) (λ z. omega (arith, z)) (some a more) in
+    let goes = list-goes (suc k) (bytes_in a ++ more) (λ z. omega arith) (λ z. omega (arith, z)) (first_said a more) in
     let less : suc k - 1 ≡ k = omega arith in
     let rest-is : list_in k more ≡ true = rw (less, past a more) at (sym goes ∙ here) in
     let w = further more rest-is in

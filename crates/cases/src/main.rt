@@ -3,15 +3,17 @@
 // `settled`, whose table is proved; only the printing has no contract.
 #![tactic(auto)]
 
-ghost use Rattle.std.specs.Prelude.{◌%◌, true, false, [], ◌≡◌, get_or};
+ghost use Rattle.std.specs.Prelude.{◌%◌, true, false, [], ◌∷◌, ◌≡◌, get_or, fold};
 ghost use Rattle.controller.specs.Chip.{write_of};
 ghost use Rattle.frames.specs.Places.{frame_times};
+ghost use Rattle.locator.specs.Locate.{refusal_of, cell_of};
 ghost use Rattle.settled.specs.Cases.{cases, set_of, reached_of, seen_of};
 
 use controller::Controller;
-use locator::locate;
+use locator::{Cell, Unlocated, locate};
 
-// R0, R1, R4, R5, R6, R8, R9, R12, R13, clocks, and 1 for a strike.
+// R0, R1, R4, R5, R6, R8, R9, R12, R13, clocks, and 1 for a strike. Stay rows of bytes: these are the lists that the proved table has, and as
+// structs with named fields a dozen lines each; whoever reads one names its parts by a pattern.
 const CASES: [[u8; 11]; 26] = [
     [3, 2, 1, 1, 2, 0, 1, 0, 0, 0, 0],
     [0, 0, 0, 0, 0, 0, 0, 0, 0, 0, 0],
@@ -48,26 +50,34 @@ fn numbered(i: u8) -> [u8; 11]
     CASES[(i % 26) as usize]
 }
 
-fn with_register(c: Controller, n: u8, v: u8) -> Controller
-    ensures { result ≡ write_of (write_of c false n) true v }
+// The controller when registers are named and written, one after the other.
+fn written(c: Controller, pairs: &[(u8, u8)]) -> Controller
+    ensures { result ≡ fold (λ d p. write_of (write_of d false p.0) true p.1) c pairs.now }
 {
-    c.write(false, n).write(true, v)
+    pairs.iter().fold(
+        c,
+        |d, (register, value)| d.write(false, *register).write(true, *value),
+    )
 }
 
 // The controller after a reset with a case's registers.
+#[tactic(auto, unfolding(settled::specs::Cases::written_of, frames::specs::Calls::after_calls, frames::specs::Calls::after_call))]
 fn set(k: [u8; 11]) -> Controller
     ensures { result ≡ set_of k }
 {
-    let c = with_register(Controller::fresh(), 0, k[0]);
-    let c = with_register(c, 1, k[1]);
-    let c = with_register(c, 4, k[2]);
-    let c = with_register(c, 5, k[3]);
-    let c = with_register(c, 6, k[4]);
-    let c = with_register(c, 8, k[5]);
-    let c = with_register(c, 9, k[6]);
-    let c = with_register(c, 12, k[7]);
-    let c = with_register(c, 13, k[8]);
-    c.reset()
+    let [r0, r1, r4, r5, r6, r8, r9, r12, r13, ..] = k;
+    let pairs = [
+        (0, r0),
+        (1, r1),
+        (4, r4),
+        (5, r5),
+        (6, r6),
+        (8, r8),
+        (9, r9),
+        (12, r12),
+        (13, r13),
+    ];
+    written(Controller::fresh(), &pairs).reset()
 }
 
 // Character times until the field counts, one by one.
@@ -77,6 +87,7 @@ fn frame_length(k: [u8; 11]) -> u32
     let start = set(k);
     let mut c = start.clock(1);
     let mut t: u32 = 1;
+    // Stays a `while`: it goes on until the field changes.
     while c.scan.field == start.scan.field {
         c = c.clock(1);
         t += 1;
@@ -85,35 +96,43 @@ fn frame_length(k: [u8; 11]) -> u32
 }
 
 // Where a case's clocks and its strike lead.
+#[tactic(auto, using(basics::proofs::Cases::cases), unfolding(settled::specs::Cases::reached_of))]
 fn reached(k: [u8; 11], c: Controller) -> Controller
     ensures { result ≡ reached_of k c }
 {
-    let there = c.clock(k[9] as u16);
-    if k[10] == 1 {
-        return there.strike();
+    let [.., clocks, strike] = k;
+    let there = c.clock(u16::from(clocks));
+    if strike == 1 { there.strike() } else { there }
+}
+
+// The locator's refusal, row and column, zeros where there is none.
+fn told(found: Result<Cell, Unlocated>) -> [u8; 3]
+    ensures { result ≡ refusal_of found ∷ (cell_of found).row ∷ (cell_of found).column ∷ [] }
+{
+    match found {
+        Ok(cell) => [0, cell.row, cell.column],
+        Err(why) => [u8::from(why), 0, 0],
     }
-    there
 }
 
 // What is seen of a case.
+#[tactic(auto, using(crate::proofs::Bytes::byte_num), unfolding(settled::specs::Cases::looked_of, settled::specs::Cases::seen_of))]
 fn seen(k: [u8; 11]) -> [u32; 8]
     ensures { result ≡ seen_of k }
 {
     let frame = frame_length(k);
     let c = reached(k, set(k));
     let o = c.outputs();
-    let newest = c.pen.newest();
-    let found = locate(c);
-    let cell = found.cell();
+    let [refusal, row, column] = told(locate(c));
     [
         frame,
-        basics::number(o.picture) as u32,
-        basics::number(c.scan.adjusting) as u32,
-        o.ma as u32,
-        newest.latch as u32,
-        found.refusal() as u32,
-        cell.row as u32,
-        cell.column as u32,
+        u32::from(o.picture),
+        u32::from(c.scan.adjusting),
+        u32::from(o.ma),
+        u32::from(c.pen.newest().latch),
+        u32::from(refusal),
+        u32::from(row),
+        u32::from(column),
     ]
 }
 

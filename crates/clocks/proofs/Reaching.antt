@@ -39,9 +39,9 @@ module _ (r : Registers) (remaining : ℕ) (p : Place) where
   reached-lines q m t u k l e = record { within = l; there = rw u.are (e ∙ sym (lines-at-once r p m u.wide k)) }
 
   -- one after the other
-  pub reached-both : (a b : Skip) → Reached r remaining p a → Reached r (remaining - a.times) a.place b
+  pub reached_both : (a b : Skip) → Reached r remaining p a → Reached r (remaining - a.times) a.place b
       → Reached r remaining p (record { place = b.place; times = a.times + b.times })
-  reached-both a b f g =
+  reached_both a b f g =
       let n : a.times + b.times ≡ b.times + a.times = omega arith in
       record { within = omega arith; there = rw (n, iterate-add, ← f.there) g.there }
 

@@ -1,13 +1,6 @@
 // How far a counter can count on, and counts that stop at 0.
-ghost use Rattle.std.specs.Prelude.{◌≡◌, ◌+◌, ◌*◌, ◌-◌, ◌≤◌};
+ghost use Rattle.std.specs.Prelude.{◌≡◌, ◌+◌, ◌*◌, ◌-◌};
 ghost use Rattle.clocks.specs.private.Skip.{Clear, LineTimes};
-
-// A count x, fallen y times.
-pub(crate) fn less(x: u8, y: u8) -> u8
-    ensures { result ≡ x - y }
-{
-    if x < y { 0 } else { x - y }
-}
 
 // The character times of m lines whose last column is `end`.
 pub(crate) fn line_times(m: u8, end: u8) -> u16
@@ -20,27 +13,13 @@ pub(crate) fn line_times(m: u8, end: u8) -> u16
 pub(crate) fn less_lines(x: u8, m: u8, end: u8) -> u8
     ensures { result ≡ x - m * (end + 1) }
 {
-    let times = line_times(m, end);
-    if (x as u16) < times {
-        return 0;
-    }
-    x - times as u8
-}
-
-// The lesser of the two.
-pub(crate) fn lesser(x: u8, y: u16) -> u8
-    ensures { (result ≤ x) × (result ≤ y) }
-{
-    if (x as u16) < y { x } else { y as u8 }
+    (x as u16).saturating_sub(line_times(m, end)) as u8
 }
 
 // How often a counter at `at` can count on before it stands at `end`, or at `top` where it would wrap.
 pub(crate) fn clear(at: u8, end: u8, top: u8) -> u8
     ensures { Clear top end at result }
 {
-    let room = less(top, at);
-    if end < at {
-        return room;
-    }
-    lesser(room, (end - at) as u16)
+    let room = top.saturating_sub(at);
+    if end < at { room } else { room.min(end - at) }
 }

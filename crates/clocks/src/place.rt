@@ -21,18 +21,18 @@ pub struct Walk {
 
 impl Place {
     // One character time.
+    #[tactic(auto, unfolding(crate::specs::Walk::stepped_of))]
     fn step(self, r: Registers) -> Walk
         ensures { result ≡ on_from r self }
     {
         let from = self.scan;
         let to = from.next(r);
-        let place = Place {
-            scan: to,
-            sync: self.sync.arrive(r, to),
-        };
         Walk {
-            place: place,
-            from: from,
+            place: Place {
+                scan: to,
+                sync: self.sync.arrive(r, to),
+            },
+            from,
         }
     }
 
@@ -40,12 +40,12 @@ impl Place {
     pub fn walk(self, r: Registers, n: u16) -> Walk
         ensures { result ≡ walk_of r n self }
     {
-        let here = self.scan;
         let mut w = Walk {
             place: self,
-            from: here,
+            from: self.scan,
         };
         let mut i: u16 = 0;
+        // Stays a `while`: every turn passes another number of times.
         while i < n {
             let skip = w.place.skip_ahead(r, n - i - 1);
             w = skip.place.step(r);

@@ -5,15 +5,15 @@ use mathlib.Core.Path.{◌≡◌, refl, sym}
 use native.Mathlib.Omega.{arith}
 use borrow.Author.Tests.{leb-true, ltb-true}
 use lib.Dec.{leb, ltb}
-use Rattle.basics.proofs.Cases.{if_yes}
+use Rattle.basics.proofs.Cases.{if_yes, cases}
 use Rattle.control.specs.declared.bits.Control.{Control}
 use Rattle.control.specs.Write.{put_bit, is_control_of, written_of, OneBitWritten}
-use Rattle.control.proofs.OneBit.{put_same, put_other}
+use Rattle.control.proofs.OneBit.{put_same, put_other, odd_num}
 
 -- a control address is one of the 32
-pub control-range : (a : ℕ) → is_control_of a ≡ true → (0xFFC0 ≤ a) × (a < 0xFFE0)
+pub control_range : (a : ℕ) → is_control_of a ≡ true → (0xFFC0 ≤ a) × (a < 0xFFE0)
 unfolding is_control_of
-control-range a e =
+control_range a e =
     let h = (and-eq-true_iff (leb 0xFFC0 a) (ltb a 0xFFE0)).0 e in
     (leb-true _ _ h.0, ltb-true _ _ h.1)
 
@@ -26,3 +26,6 @@ one-bit-written c a e =
       own = rw (w, put_same ((a - 0xFFC0) / 2) (a % 2) c.bits (omega arith));
       others = λ j ne. rw (w, put_other j ((a - 0xFFC0) / 2) (a % 2) c.bits (omega arith) ne);
     }
+
+-- what a write is proved by
+pub ruleset writing = (cases, control_range, odd_num)

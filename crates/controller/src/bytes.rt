@@ -6,7 +6,8 @@ use crate::pins::Outputs;
 use basics::{flag, high, low};
 
 impl Outputs {
-    // Picture and pins as one number.
+    // Picture and pins as one number. Stays a sum by hand: five facts are packed, and no conversion of one thing does that.
+    #[tactic(auto, unfolding(crate::specs::Bytes::flags_of))]
     fn flags(self) -> u8
         ensures { result ≡ flags_of self }
     {
@@ -17,7 +18,8 @@ impl Outputs {
             + flag(self.vsync, 16)
     }
 
-    // MA high, MA low, RA and the flags.
+    // MA high, MA low, RA and the flags. Stays a method: rules and promises name it, and an array's `from` would say less.
+    #[tactic(auto, unfolding(crate::specs::Bytes::time_bytes_of))]
     pub fn bytes(self) -> [u8; 4]
         ensures { result ≡ time_bytes_of self }
     {

@@ -42,6 +42,7 @@ impl Controller {
     ];
 
     // The power-on state.
+    #[tactic(auto, unfolding(crate::specs::Chip::fresh_of))]
     pub fn fresh() -> Controller
         ensures { result ≡ fresh_of }
     {
@@ -51,6 +52,7 @@ impl Controller {
         })
     }
 
+    #[tactic(auto, unfolding(crate::specs::Chip::arrived_of))]
     fn arrived(r: Registers) -> Controller
         ensures { result ≡ arrived_of r }
     {
@@ -68,6 +70,7 @@ impl Controller {
         }
     }
 
+    #[tactic(auto, unfolding(crate::specs::Chip::reset_of))]
     pub fn reset(self) -> Controller
         ensures { result ≡ reset_of self }
     {
@@ -75,12 +78,12 @@ impl Controller {
     }
 
     // A register write, by RS.
-    pub fn write(self, rs: bool, v: u8) -> Controller
+    #[tactic(auto, unfolding(crate::specs::Chip::write_of))]
+    pub fn write(mut self, rs: bool, v: u8) -> Controller
         ensures { result ≡ write_of self rs v }
     {
-        let mut c = self;
-        c.regs = written(self.regs, rs, v);
-        c
+        self.regs = written(self.regs, rs, v);
+        self
     }
 
     // n character times.
@@ -88,48 +91,41 @@ impl Controller {
         ensures { result ≡ clock_of n self }
     {
         if n == 0 {
-            return self;
+            self
+        } else {
+            self.walked(self.place().walk(self.regs, n))
         }
-        let r = self.regs;
-        self.walked(self.place().walk(r, n))
     }
 
     fn place(self) -> Place
         ensures { result ≡ place_of self }
     {
-        let scan = self.scan;
-        let sync = self.sync;
         Place {
-            scan: scan,
-            sync: sync,
+            scan: self.scan,
+            sync: self.sync,
         }
     }
 
-    fn walked(self, w: Walk) -> Controller
+    #[tactic(auto, unfolding(crate::specs::private::Walked::walked_of))]
+    fn walked(mut self, w: Walk) -> Controller
         ensures { result ≡ walked_of self w }
     {
-        let r = self.regs;
-        let scan = w.place.scan;
-        let sync = w.place.sync;
-        let mut c = self;
-        c.left = Facts::at(r, w.from);
-        c.scan = scan;
-        c.sync = sync;
-        c
+        self.left = Facts::at(self.regs, w.from);
+        self.scan = w.place.scan;
+        self.sync = w.place.sync;
+        self
     }
 
     // A pen strike at this character.
-    pub fn strike(self) -> Controller
+    #[tactic(auto, unfolding(crate::specs::Chip::strike_of, crate::specs::Pins::outputs_of))]
+    pub fn strike(mut self) -> Controller
         ensures { result ≡ strike_of self }
     {
-        let r = self.regs;
-        let o = self.outputs();
         let strike = Strike {
-            latch: latch(r, self.scan),
-            inside: o.picture,
+            latch: latch(self.regs, self.scan),
+            inside: self.outputs().picture,
         };
-        let mut c = self;
-        c.pen = self.pen.struck(strike);
-        c
+        self.pen = self.pen.struck(strike);
+        self
     }
 }

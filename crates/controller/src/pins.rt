@@ -17,6 +17,7 @@ pub struct Outputs {
 }
 
 // A pin that can come late: the fact of this character, or, where it is delayed, of the character left.
+#[tactic(auto, using(basics::proofs::Cases::cases), unfolding(crate::specs::Pins::pin_of))]
 pub fn pin(delayed: bool, left: bool, here: bool) -> bool
     ensures { result ≡ pin_of delayed left here }
 {
@@ -25,18 +26,18 @@ pub fn pin(delayed: bool, left: bool, here: bool) -> bool
 
 impl Controller {
     // The outputs at this character.
+    #[tactic(auto, unfolding(crate::specs::Pins::outputs_of))]
     pub fn outputs(self) -> Outputs
         ensures { result ≡ outputs_of self }
     {
-        let r = self.regs;
-        let scan = self.scan;
-        let picture = facts::picture(r, scan);
+        let picture = facts::picture(self.regs, self.scan);
+        let cursor = facts::cursor(self.regs, self.scan);
         Outputs {
-            ma: facts::ma(r, scan),
+            ma: facts::ma(self.regs, self.scan),
             ra: self.scan.line,
-            picture: picture,
-            display: pin(r.display_delayed(), self.left.picture, picture),
-            cursor: pin(r.cursor_delayed(), self.left.cursor, facts::cursor(r, scan)),
+            picture,
+            display: pin(self.regs.display_delayed(), self.left.picture, picture),
+            cursor: pin(self.regs.cursor_delayed(), self.left.cursor, cursor),
             hsync: 0 < self.sync.hsync,
             vsync: 0 < self.sync.vsync,
         }

@@ -5,50 +5,37 @@ ghost use Rattle.controller.specs.Writes.{kept_of, addressed_of, stored_of, writ
 use crate::chip::Controller;
 use raster::Registers;
 
-// A byte under the mask of a register that there is.
-fn masked(k: usize, v: u8) -> u8
-    requires { k < 16 }
-    ensures { result ≡ kept_of k v }
-{
-    v & Controller::MASKS[k]
-}
-
 // What register k keeps of a byte; past R15 it is nothing.
 pub fn kept(k: u8, v: u8) -> u8
     ensures { result ≡ kept_of k v }
 {
-    let at = k as usize;
-    if at < 16 {
-        return masked(at, v);
+    match Controller::MASKS.get(k as usize) {
+        Some(mask) => v & *mask,
+        None => 0,
     }
-    0
 }
 
+#[tactic(auto, unfolding(crate::specs::Writes::addressed_of))]
 fn addressed(r: Registers, v: u8) -> Registers
     ensures { result ≡ addressed_of r v }
 {
-    let mut q = r;
-    q.named = v % 32;
-    q
+    Registers { named: v % 32, ..r }
 }
 
-fn stored(r: Registers, v: u8) -> Registers
+#[tactic(auto, using(basics::proofs::Cases::cases), unfolding(crate::specs::Writes::stored_of))]
+fn stored(mut r: Registers, v: u8) -> Registers
     ensures { result ≡ stored_of r v }
 {
     let at = r.named as usize;
-    if at < 16 {
-        let mut q = r;
-        q.held[at] = masked(at, v);
-        return q;
+    if at < r.held.len() {
+        r.held[at] = kept(r.named, v);
     }
     r
 }
 
+#[tactic(auto, using(basics::proofs::Cases::cases), unfolding(crate::specs::Writes::written_of))]
 pub(crate) fn written(r: Registers, rs: bool, v: u8) -> Registers
     ensures { result ≡ written_of r rs v }
 {
-    if rs {
-        return stored(r, v);
-    }
-    addressed(r, v)
+    if rs { stored(r, v) } else { addressed(r, v) }
 }

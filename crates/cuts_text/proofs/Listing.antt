@@ -2,15 +2,15 @@
 use Prim.Native.Nat.{ℕ, zero, suc, ◌-◌, ◌≤◌}
 use mathlib.Core.Bool.{true, false}
 use mathlib.Core.List.{List}
+use Rattle.std.specs.Prelude.{Option, Some, None}
 use mathlib.Core.Path.{◌≡◌, ap, ◌∙◌}
 use native.Mathlib.Omega.{arith}
-use lib.Dec.{eqb, ltb}
-use lib.ListN.{length, get_or, drop}
-use borrow.Author.Tests.{eq-eqb, ne_eqb, eqb-false, le-ltb, ltb-false}
-use Rattle.basics.proofs.Cases.{if-both}
+use lib.ListN.{length, get_or, take, drop, length-drop}
+use lib.Seq.{take_all}
+use borrow.Author.Tests.{eq-eqb, ne_eqb, le-ltb}
 use Rattle.basics.specs.Choice.{when◌then◌else◌}
 use Rattle.rooms_text.specs.Rooms.{room_of}
-use Rattle.cuts_text.specs.Asked.{call_head, cut_length, cut_of, first_of, length_of, list_in}
+use Rattle.cuts_text.specs.Asked.{call_head, cut_length, cut_of, first_of, length_of, called_and, list_in}
 use Rattle.cuts_text.specs.declared.asked.Asked.{Asked}
 use Rattle.cuts_text.specs.declared.asked.Asked.TheVariants.{Cut}
 
@@ -26,36 +26,27 @@ list-bound k rest h e = rw e (ne_eqb (length rest) 0 h)
 
 -- a list that begins with no call, and one that does
 module _ (k : ℕ) (rest : List ℕ) (some : length rest ≡ 0 → ⊥) (left : k ≡ 0 → ⊥) where
-  pub list-ends : length_of (first_of rest) ≡ 0 → list_in k rest ≡ false
+  list-called : list_in k rest ≡ called_and (first_of rest) (λ (a : Asked). list_in (k - 1) (drop (length_of a) rest))
   unfolding list_in when◌then◌else◌
-  list-ends h =
+  list-called =
       let e : k ≡ suc (k - 1) = omega arith in
-      rw (e, ne_eqb (length rest) 0 some, eq-eqb (length_of (first_of rest)) 0 h)
-
-  pub list-goes : (length_of (first_of rest) ≡ 0 → ⊥) → list_in k rest ≡ list_in (k - 1) (drop (length_of (first_of rest)) rest)
-  unfolding list_in when◌then◌else◌
-  list-goes h =
-      let e : k ≡ suc (k - 1) = omega arith in
-      let one : list_in (suc (k - 1)) rest ≡ list_in (k - 1) (drop (length_of (first_of rest)) rest) =
-      rw (ne_eqb (length rest) 0 some, ne_eqb (length_of (first_of rest)) 0 h) in
+      let one : list_in (suc (k - 1)) rest ≡ called_and (first_of rest) (λ (a : Asked). list_in (k - 1) (drop (length_of a) rest)) =
+      rw (ne_eqb (length rest) 0 some) in
       ap (λ (n : ℕ). list_in n rest) e ∙ one
+
+  pub list-ends : first_of rest ≡ None → list_in k rest ≡ false
+  list-ends h = list-called ∙ ap (λ (o : Option Asked). called_and o (λ (a : Asked). list_in (k - 1) (drop (length_of a) rest))) h
+
+  pub list-goes : {a : Asked} → first_of rest ≡ Some a → list_in k rest ≡ list_in (k - 1) (drop (length_of a) rest)
+  list-goes h = list-called ∙ ap (λ (o : Option Asked). called_and o (λ (a : Asked). list_in (k - 1) (drop (length_of a) rest))) h
 
 -- a cut that is whole
 pub cut-whole : (rest : List ℕ) (room long : ℕ) → room ≡ room_of (get_or rest 1 0) (get_or rest 2 0) → long ≡ cut_length rest
-    → call_head ≤ length rest → long ≤ length rest - call_head → Cut room long ≡ cut_of rest
+    → call_head ≤ length rest → long ≤ length rest - call_head → Some (Cut room long) ≡ cut_of rest
 unfolding cut_of when◌then◌else◌
 cut-whole rest room long r e head h =
     rw (le-ltb (length rest) call_head head, le-ltb (length rest - call_head) (cut_length rest) (rw e at h)) (rw (r, e))
 
--- a call is said by no more bytes than there are
-pub first-within : (rest : List ℕ) → length_of (first_of rest) ≤ length rest
-unfolding first_of cut_of
-first-within rest =
-    let P : Asked → Type 0 = λ a. length_of a ≤ length rest in
-    let whole : P (cut_of rest) =
-    if-both P (ltb (length rest) call_head) _ _ (λ short. omega arith)
-    (λ head. if-both P (ltb (length rest - call_head) (cut_length rest)) _ _ (λ short. omega arith)
-    (λ all. omega (arith, ltb-false (length rest) call_head head, ltb-false (length rest - call_head) (cut_length rest) all))) in
-    if-both P (eqb (length rest) 0) _ _ (λ none. omega arith)
-    (λ some. if-both P (eqb (get_or rest 0 0) 2) _ _ (λ close. let n = eqb-false (length rest) 0 some in omega (arith, n))
-    (λ no. if-both P (eqb (get_or rest 0 0) 1) _ _ (λ cut. whole) (λ no. omega arith)))
+-- all that is behind the head of a cut
+pub length_bytes : (rest : List ℕ) → length (take (length rest - call_head) (drop call_head rest)) ≡ length rest - call_head
+length_bytes rest = ap length (take_all (length rest - call_head) (drop call_head rest) (simp length-drop (omega arith))) ∙ length-drop call_head rest

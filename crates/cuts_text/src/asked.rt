@@ -1,5 +1,5 @@
 // A list of calls, as bytes.
-ghost use Rattle.std.specs.Prelude.{◌≡◌, length};
+ghost use Rattle.std.specs.Prelude.{◌≡◌, IfSome, length};
 ghost use Rattle.cuts_text.specs.Asked.{cut_of, first_of, length_of, list_in, is_list_of};
 ghost use Rattle.cuts_text.specs.Whole.{no_call};
 ghost use Rattle.cuts_text.specs.private.Within.{Within};
@@ -14,14 +14,14 @@ pub const INPUT: usize = batch::MOST;
 // The bytes in front of a cut: the sort of call, its room, and how long the cut is.
 pub(crate) const HEAD: usize = 5;
 
+// The byte that a call begins with. The two stay numbers: they name the patterns by which a byte of the input is told, and nothing holds them.
 const CUT: u8 = 1;
 
 const CLOSE: u8 = 2;
 
-// The call that a list begins with.
+// A call of a list.
 #[derive(Clone, Copy)]
 pub enum Asked {
-    Nothing,
     Close,
     Cut { room: usize, long: u16 },
 }
@@ -32,44 +32,41 @@ impl Asked {
         ensures { result ≡ length_of self }
     {
         match self {
-            Asked::Nothing => 0,
             Asked::Close => 1,
-            Asked::Cut { room: _, long } => HEAD + (long as usize),
+            Asked::Cut { room: _, long } => HEAD + usize::from(long),
         }
     }
 }
 
 // A cut, where its head and all of its bytes are there.
-fn cut(rest: &[u8]) -> Asked
+fn cut(rest: &[u8]) -> Option<Asked>
     ensures is { result ≡ cut_of rest.now }
-    ensures within { Within result (length rest.now) }
+    ensures within { IfSome result (λ asked. Within asked (length rest.now)) }
 {
-    if rest.len() < HEAD {
-        return Asked::Nothing;
+    let [_, room_high, room_low, long_high, long_low, bytes @ ..] = rest else {
+        return None;
+    };
+    let room = room_of(*room_high, *room_low);
+    let long = word(*long_high, *long_low);
+    if bytes.len() < usize::from(long) {
+        return None;
     }
-    let room = room_of(rest[1], rest[2]);
-    let long = word(rest[3], rest[4]);
-    if rest.len() - HEAD < (long as usize) {
-        return Asked::Nothing;
-    }
-    Asked::Cut { room, long }
+    Some(Asked::Cut { room, long })
 }
 
-// The call that some bytes begin with.
-pub(crate) fn first(rest: &[u8]) -> Asked
+// The call that some bytes begin with, if they do.
+pub(crate) fn first(rest: &[u8]) -> Option<Asked>
     ensures is { result ≡ first_of rest.now }
-    ensures within { Within result (length rest.now) }
+    ensures within { IfSome result (λ asked. Within asked (length rest.now)) }
 {
-    if rest.len() == 0 {
-        return Asked::Nothing;
+    let [sort, ..] = rest else {
+        return None;
+    };
+    match *sort {
+        CLOSE => Some(Asked::Close),
+        CUT => cut(rest),
+        _ => None,
     }
-    if rest[0] == CLOSE {
-        return Asked::Close;
-    }
-    if rest[0] == CUT {
-        return cut(rest);
-    }
-    Asked::Nothing
 }
 
 // What is said of an input that is no list of calls.
@@ -83,17 +80,16 @@ pub fn refusal() -> [u8; 8]
 fn list_in(rest: &[u8], most: usize) -> bool
     ensures { result ≡ list_in most rest.now }
 {
-    if rest.len() == 0 {
+    if rest.is_empty() {
         return true;
     }
     if most == 0 {
         return false;
     }
-    let used = first(rest).length();
-    if used == 0 {
+    let Some(asked) = first(rest) else {
         return false;
-    }
-    list_in(unread_rest(rest, used), most - 1)
+    };
+    list_in(unread_rest(rest, asked.length()), most - 1)
 }
 
 // Whether an input is a list of calls that is not too long.

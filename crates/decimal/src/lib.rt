@@ -2,10 +2,12 @@
 #![tactic(auto)]
 
 ghost use Rattle.std.specs.Prelude.{◌≡◌, [], ◌∷◌, ◌+◌, ◌%◌};
-ghost use Rattle.basics.specs.Lay.{Writes, behind_of, put_at};
-ghost use Rattle.decimal.specs.Decimal.{decimal_in, decimal_of};
+ghost use Rattle.decimal.specs.Decimal.{decimal_in, decimal_of, most_digits};
+ghost use Rattle.text.specs.Owned.{appended};
+ghost use Rattle.text.specs.private.Adds.{Adds};
 
-use basics::put;
+use std::convert::AsSlice;
+use text::Text;
 
 // The most digits that a number of 64 bits has.
 pub const DIGITS: usize = 20;
@@ -17,28 +19,24 @@ fn last_digit(n: u64) -> [u8; 1]
     [b'0' + (n % 10) as u8]
 }
 
-// Lays the last k digits at the most of n, the highest first.
-fn lay_digits(dst: &mut [u8], at: usize, n: u64, k: usize) -> usize
-    ensures { Writes dst.old dst.new at result (decimal_in k n) }
+// Puts the last k digits at the most of n, the highest first.
+fn put_digits(digits: &mut Text<DIGITS>, n: u64, k: usize)
+    ensures { Adds most_digits digits.old digits.new (decimal_in k n) }
 {
     if k == 0 {
-        return at;
+        return;
     }
-    let last = last_digit(n);
-    if n < 10 {
-        return put(dst, at, &last);
+    if n >= 10 {
+        put_digits(digits, n / 10, k - 1);
     }
-    let q = lay_digits(dst, at, n / 10, k - 1);
-    put(dst, q, &last)
+    digits.put(&last_digit(n));
 }
 
-// Lays the digits of n from at on and gives the place behind them; where they have no room, changes nothing and gives at back.
-pub fn put_decimal(dst: &mut [u8], at: usize, n: u64) -> usize
-    ensures place { result ≡ behind_of dst.old at (decimal_of n) }
-    ensures laid { dst.new ≡ put_at dst.old at (decimal_of n) }
-    ensures next { Writes dst.old dst.new at result (decimal_of n) }
+// Puts the digits of n at the end of a text; where they have no room, changes nothing.
+pub fn put_decimal<const N: usize>(text: &mut Text<N>, n: u64)
+    ensures { text.new ≡ appended N text.old (decimal_of n) }
 {
-    let mut digits = [0u8; DIGITS];
-    let count = lay_digits(&mut digits, 0, n, DIGITS);
-    put(dst, at, &digits[..count])
+    let mut digits = Text::<DIGITS>::new();
+    put_digits(&mut digits, n, DIGITS);
+    text.put(digits.as_slice());
 }

@@ -5,6 +5,7 @@ use mathlib.Core.Bool.{Bool, true, false}
 use mathlib.Core.List.{List, [], ◌∷◌, ◌++◌, map}
 use mathlib.Core.Logic.{◌⊎◌, inl, inr, ⊎_elim}
 use native.Mathlib.Omega.{arith}
+use Rattle.std.specs.Prelude.{Ok, Err}
 use Rattle.raster.specs.Registers.{reg}
 use Rattle.raster.specs.Widths.{RegistersWithin}
 use Rattle.raster.specs.declared.registers.Registers.{Registers}
@@ -27,7 +28,7 @@ use Rattle.frames.proofs.Reached.{reached-within}
 use Rattle.locator.specs.Cells.{IsCell, cell_at, fits_of, fit_of}
 use Rattle.locator.specs.Locate.{refusal_of, cell_of, named_of, strike_found_of, locate_of}
 use Rattle.locator.specs.declared.cells.Cell.{Cell}
-use Rattle.locator.specs.declared.answer.Located.TheVariants.{At, Unstruck, Outside, Several}
+use Rattle.locator.specs.declared.answer.Unlocated.TheVariants.{Unstruck, Outside, Several}
 use Rattle.locator.proofs.Columns.{same_address}
 use Rattle.locator.proofs.Listed.{found, several, somewhere}
 use Rattle.locator.proofs.Locating.{locate-alike, locate-none, locate-newest, found_inside, found-outside, picture-cell, own-fits, same-or-other}
@@ -87,7 +88,7 @@ module _ (c : Controller) (w : RegistersWithin c.regs) where
         ∙ strike-answer b
         ∙ ap (λ (q : Registers). strike_found_of q (strike_at q b.scan)) ((frames c w).registers before)
 
-    struck-outside : picture_of r s ≡ false → answer_to c before more ≡ Outside
+    struck-outside : picture_of r s ≡ false → answer_to c before more ≡ Err Outside
     struck-outside e = struck ∙ found-outside r (strike_at r s) e
 
     module _ (e : picture_of r s ≡ true) where
@@ -103,12 +104,12 @@ module _ (c : Controller) (w : RegistersWithin c.regs) where
       fits : fits_of r (latch_of r s) cell ≡ true
       fits = own-fits r s (in-picture r s e).running region.0 ((frames c w).placed before).start region.2
 
-      named-alone : ((d : Cell) → Rival c s d → ⊥) → answer_to c before more ≡ At cell
+      named-alone : ((d : Cell) → Rival c s d → ⊥) → answer_to c before more ≡ Ok cell
       named-alone u =
           struck-inside ∙ found r narrow (latch_of r s) cell is-cell fits
           (λ d j k. ⊎_elim (λ (q : d ≡ cell). q) (λ n. absurd (u d (record { cell = j; fits = k; other = n }))) (same-or-other d cell))
 
-      rivalled : (d : Cell) → Rival c s d → answer_to c before more ≡ Several
+      rivalled : (d : Cell) → Rival c s d → answer_to c before more ≡ Err Several
       rivalled d v = struck-inside ∙ several r narrow (latch_of r s) cell is-cell fits d v.cell v.fits v.other
 
       never-7 : refusal_of (answer_to c before more) ≡ 7 → ⊥
@@ -124,7 +125,7 @@ module _ (c : Controller) (w : RegistersWithin c.regs) where
       never-8 : reg r 1 + 1 ≤ reg r 0 → OneCellEach r → refusal_of (answer_to c before more) ≡ 8 → ⊥
       never-8 h one z = let q : ◌≡◌ {A = ℕ} 0 8 = sym (ap refusal_of (named-alone (no_rival h one))) ∙ z in omega arith
 
-  unstruck : (more : List Wait) → locate_of (after_acts (map waits more) (reset_of c)) ≡ Unstruck
+  unstruck : (more : List Wait) → locate_of (after_acts (map waits more) (reset_of c)) ≡ Err Unstruck
   unstruck more = after-waits more (reset_of c) ∙ locate-none (reset_of c) (ap holds_of (reset-pen c) ∙ none-holds)
 
   pub demand3 : Demand3 c

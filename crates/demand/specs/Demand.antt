@@ -1,6 +1,6 @@
 -- Demand 3, whole, of the real controller's calls: a reset, then character clocks, reads and pen strikes in any order, then a locate. No
 -- register is written in between (document 01, "One character time", "The locator" and the table of refusals, and request W5).
-use Rattle.std.specs.Prelude.{◌+◌, ◌≤◌, ◌≡◌, true, false, List, ◌∷◌, ◌++◌, map, ◌⊎◌}
+use Rattle.std.specs.Prelude.{◌+◌, ◌≤◌, ◌≡◌, true, false, List, ◌∷◌, ◌++◌, map, ◌⊎◌, Result}
 use Rattle.facts.specs.Facts.{picture_of, latch_of}
 use Rattle.raster.specs.Registers.{reg}
 use Rattle.raster.specs.declared.registers.Registers.{Registers}
@@ -12,14 +12,14 @@ use Rattle.controller.specs.declared.chip.Controller.{Controller}
 use Rattle.locator.specs.Cells.{IsCell, cell_at, cell_address_of, fits_of}
 use Rattle.locator.specs.Locate.{refusal_of, cell_of, locate_of}
 use Rattle.locator.specs.declared.cells.Cell.{Cell}
-use Rattle.locator.specs.declared.answer.Located.{Located}
+use Rattle.locator.specs.declared.answer.Unlocated.{Unlocated}
 
 -- the scan where a strike falls: after a reset and what came before the strike
 abbrev pub struck_at : Controller → List Act → Scan
 struck_at c before = (after_acts before (reset_of c)).scan
 
 -- the locator's answer when that strike was the last, with clocks and reads only after it
-abbrev pub answer_to : Controller → List Act → List Wait → Located
+abbrev pub answer_to : Controller → List Act → List Wait → Result Cell Unlocated
 answer_to c before more = locate_of (after_acts (before ++ strikes ∷ map waits more) (reset_of c))
 
 -- another picture cell fits the latch of a strike at s: struck on one of its lines, it would leave the same

@@ -23,19 +23,21 @@ impl Display {
     }
 
     // B5..B15 moved on by one.
+    #[tactic(auto, unfolding(crate::specs::Counter::advanced))]
     fn advance(mut self) -> Display
         ensures { result ≡ advanced self }
     {
-        self.b = std::num::wrapping_add_u16(self.b, 32);
+        self.b = self.b.wrapping_add(32);
         self
     }
 
-    // A fall of B4.
+    // A fall of B4. Stays beside count_x: the two share one comparison, and each has its own divider and goes on to other bits.
+    #[tactic(auto, using(basics::proofs::Cases::cases), unfolding(crate::specs::Counter::count_y))]
     pub(crate) fn count_y(mut self, mode: Mode) -> Display
         ensures { result ≡ count_y mode self }
     {
-        if (self.y as u16) + 1 < mode.y as u16 {
-            self.y = self.y + 1;
+        if u16::from(self.y) + 1 < u16::from(mode.y) {
+            self.y += 1;
             return self;
         }
         self.y = 0;
@@ -43,23 +45,25 @@ impl Display {
     }
 
     // B4 flips, and falls where it was 1.
+    #[tactic(auto, using(basics::proofs::Cases::cases), unfolding(crate::specs::Counter::flip_b4))]
     fn flip_b4(mut self, mode: Mode) -> Display
         ensures { result ≡ flip_b4 mode self }
     {
         if self.b / 16 % 2 == 1 {
-            self.b = self.b - 16;
+            self.b -= 16;
             return self.count_y(mode);
         }
-        self.b = self.b + 16;
+        self.b += 16;
         self
     }
 
     // A fall of B3.
+    #[tactic(auto, using(basics::proofs::Cases::cases), unfolding(crate::specs::Counter::count_x))]
     pub(crate) fn count_x(mut self, mode: Mode) -> Display
         ensures { result ≡ count_x mode self }
     {
-        if (self.x as u16) + 1 < mode.x as u16 {
-            self.x = self.x + 1;
+        if u16::from(self.x) + 1 < u16::from(mode.x) {
+            self.x += 1;
             return self;
         }
         self.x = 0;
@@ -67,14 +71,15 @@ impl Display {
     }
 
     // One display fetch.
+    #[tactic(auto, using(basics::proofs::Cases::cases), unfolding(crate::specs::Counter::fetch_of))]
     fn fetch(mut self, mode: Mode) -> Display
         ensures { result ≡ fetch_of mode self }
     {
         if self.b % 16 < 15 {
-            self.b = self.b + 1;
+            self.b += 1;
             return self;
         }
-        self.b = self.b - 15;
+        self.b -= 15;
         self.count_x(mode)
     }
 
@@ -83,11 +88,12 @@ impl Display {
         requires { self.b % 16 + k ≤ 15 }
         ensures { result ≡ with_b (self.b + k) self }
     {
-        self.b = self.b + k;
+        self.b += k;
         self
     }
 
     // n display fetches. Each turn makes a run of them at once, and then one that may let B3 fall.
+    // Stays a while: how far a turn goes hangs on the address that it begins at, so no range or iterator counts the turns.
     pub fn fetches(self, mode: Mode, n: u16) -> Display
         ensures { result ≡ fetches_of mode n self }
     {
@@ -106,9 +112,5 @@ impl Display {
 fn run_length(b: u16, remaining: u16) -> u16
     ensures { Run b remaining result }
 {
-    let k = 15 - b % 16;
-    if k < remaining {
-        return k;
-    }
-    remaining
+    remaining.min(15 - b % 16)
 }

@@ -9,10 +9,14 @@ use native.Mathlib.Omega.{arith}
 use lib.ListN.{length, drop, length-append, length-drop}
 use lib.Seq.{drop-nil, drop-length, take_at, drop_at}
 use Rattle.basics.proofs.Laying.{laid_none, laid-front}
+use Rattle.replay.specs.Ending.{ending_number}
+use Rattle.replay.specs.declared.ending.Ending.{Ending}
+use Rattle.replay.specs.declared.ending.Ending.TheVariants as run_ends
 use Rattle.replay.specs.Run.{Run, written_of}
 use Rattle.replay.proofs.Replaying.{length-written}
 use Rattle.every_replay.proofs.Counts.{sound}
-use Rattle.line.specs.Held.{held_of, closing_number}
+use Rattle.line.specs.CallEnding.{call_ending_number}
+use Rattle.line.specs.Held.{held_of, closing_ending}
 use Rattle.line.specs.Line.{Outcome, run_over, waits_of, full_of, outcome_of, accepted_of}
 use Rattle.line.specs.declared.held.Held.{Held}
 use Rattle.line.specs.declared.held.Held.TheVariants.{Nothing, One, Two, Three}
@@ -29,6 +33,12 @@ drop-both [] m t = rw (drop-nil, sub-zero)
 drop-both (x ∷ l) m zero = rw zero-sub
 drop-both (x ∷ l) m (suc t) = rw suc-sub-suc (drop-both l m t)
 
+-- a run that ends with 4 has no room
+no_room : (e : Ending) → ending_number e ≡ 4 → e ≡ run_ends.NoRoom
+no_room run_ends.Empty h = absurd (omega arith)
+no_room run_ends.CutShort h = absurd (omega arith)
+no_room run_ends.NoRoom h = refl
+
 -- a cut on an open line, by how the run over its bytes ends
 module _ (l : Line) (cut : List ℕ) (room : ℕ) (o : l.closed ≡ false) where
   abbrev held : List ℕ
@@ -43,7 +53,7 @@ module _ (l : Line) (cut : List ℕ) (room : ℕ) (o : l.closed ≡ false) where
   long : length (held ++ cut) ≡ length held + length cut
   long = length-append held cut
 
-  module _ (e : r.ending ≡ 4) where
+  module _ (e : r.ending ≡ run_ends.NoRoom) where
     full-held : held_of (full_of l r).line.held ≡ drop (4 * length r.answers) held
     full-held =
         let s = sound (held ++ cut) room l.bench in
@@ -52,7 +62,7 @@ module _ (l : Line) (cut : List ℕ) (room : ℕ) (o : l.closed ≡ false) where
     pub sound-full : SoundCall l cut room (full_of l r)
     sound-full =
         let s = sound (held ++ cut) room l.bench in
-        let f = s.full.0 e in
+        let f = s.full.0 (ap ending_number e) in
         record {
           endings = inr (inl refl);
           closed = (λ q. absurd (omega (arith, q)), not-closed);
@@ -69,11 +79,11 @@ module _ (l : Line) (cut : List ℕ) (room : ℕ) (o : l.closed ≡ false) where
           rest = rw full-held (rw s.taken (sym (drop-both held cut (4 * length r.answers))));
         }
 
-  module _ (n : r.ending ≡ 4 → ⊥) where
+  module _ (n : r.ending ≡ run_ends.NoRoom → ⊥) where
     few-left : length (drop r.taken (held ++ cut)) ≤ 3
     few-left =
         let s = sound (held ++ cut) room l.bench in
-        simp length-drop (⊎_elim (λ e. omega (arith, s.none.0 e)) (λ m. ⊎_elim (λ e. omega (arith, (s.short.0 e).1)) (λ e. absurd (n e)) m) s.endings)
+        simp length-drop (⊎_elim (λ e. omega (arith, s.none.0 e)) (λ m. ⊎_elim (λ e. omega (arith, (s.short.0 e).1)) (λ e. absurd (n (no_room r.ending e))) m) s.endings)
 
     waits-held : held_of (waits_of l cut r).line.held ≡ drop (4 * length r.answers) (held ++ cut)
     waits-held =
@@ -87,7 +97,7 @@ module _ (l : Line) (cut : List ℕ) (room : ℕ) (o : l.closed ≡ false) where
           endings = inl refl;
           closed = (λ q. absurd (omega (arith, q)), not-closed);
           unmoved = not-closed;
-          full = λ _. (λ q. absurd (omega (arith, q)), λ f. absurd (n (s.full.1 (omega (arith, f.0, s.taken, long), f.1))));
+          full = λ _. (λ q. absurd (omega (arith, q)), λ f. absurd (n (no_room r.ending (s.full.1 (omega (arith, f.0, s.taken, long), f.1)))));
           full-takes = λ q. absurd (omega (arith, q));
           full-keeps = λ q. absurd (omega (arith, q));
           all = λ _. refl;
@@ -133,7 +143,7 @@ cut-records l cut room o =
     (λ n. rw (waits-outcome l cut room o n) (record { records = t.records; bytes = bytes; answered = t.answered }))
 
 -- closing, by what is held
-numbers : (h : Held) → ((closing_number h ≡ 0) ↔ (length (held_of h) ≡ 0)) × ((closing_number h ≡ 3) ↔ ((1 ≤ length (held_of h)) × (length (held_of h) ≤ 3)))
+numbers : (h : Held) → ((call_ending_number (closing_ending h) ≡ 0) ↔ (length (held_of h) ≡ 0)) × ((call_ending_number (closing_ending h) ≡ 3) ↔ ((1 ≤ length (held_of h)) × (length (held_of h) ≤ 3)))
 numbers Nothing = ((λ q. refl, λ q. refl), (λ q. absurd (omega (arith, q)), λ q. absurd (omega (arith, q.0))))
 numbers (One a) = ((λ q. absurd (omega (arith, q)), λ q. absurd (omega (arith, q))), (λ q. (omega arith, omega arith), λ q. refl))
 numbers (Two a b) = ((λ q. absurd (omega (arith, q)), λ q. absurd (omega (arith, q))), (λ q. (omega arith, omega arith), λ q. refl))

@@ -7,11 +7,15 @@ use native.Mathlib.Omega.{arith}
 use lib.ListN.{length, drop, length-append, drop_of_length-le}
 use Rattle.answer.specs.declared.Answer.{Answer}
 use Rattle.bench.specs.declared.step.Bench.{Bench}
+use Rattle.replay.specs.Ending.{ending_number}
+use Rattle.replay.specs.declared.ending.Ending.{Ending}
+use Rattle.replay.specs.declared.ending.Ending.TheVariants.{Empty, CutShort, NoRoom}
 use Rattle.replay.specs.Run.{Run, stop, run_of}
 use Rattle.replay.proofs.Runs.{run_none, run_short}
 use Rattle.every_replay.proofs.Counts.{sound}
 use Rattle.every_replay.proofs.Parts.{run_on}
-use Rattle.line.specs.Held.{held_of, closing_number}
+use Rattle.line.specs.CallEnding.{call_ending_number}
+use Rattle.line.specs.Held.{held_of, closing_ending}
 use Rattle.line.specs.Line.{Outcome, run_over, outcome_of, closing_of}
 use Rattle.line.specs.declared.held.Held.{Held}
 use Rattle.line.specs.declared.held.Held.TheVariants.{Nothing, One, Two, Three}
@@ -20,10 +24,29 @@ use Rattle.line.proofs.Calling.{full-outcome, waits-outcome, by-ending, closing-
 use Rattle.every_line.specs.Cuts.{RoomFor, AsOneReplay, Cut, joined_of, last_of, answers_of, Roomy, Brought, done, call, Together}
 use Rattle.every_line.proofs.Calls.{calls}
 
+-- how a replay of what a line holds ends
+abbrev pub held_ending : Held → Ending
+held_ending Nothing = Empty
+held_ending (One a) = CutShort
+held_ending (Two a b) = CutShort
+held_ending (Three a b c) = CutShort
+
+-- closing tells that number
+closing-number : (h : Held) → call_ending_number (closing_ending h) ≡ ending_number (held_ending h)
+closing-number Nothing = refl
+closing-number (One a) = refl
+closing-number (Two a b) = refl
+closing-number (Three a b c) = refl
+
 -- all calls, and then closing, as a run
 abbrev pub as_run : Line → List Answer → Run
 as_run last answers =
-    record { bench = (closing_of last).line.bench; ending = (closing_of last).ending; taken = 4 * length answers; answers = answers }
+    record { bench = (closing_of last).line.bench; ending = held_ending last.held; taken = 4 * length answers; answers = answers }
+
+-- calls leave an open line open
+last-open : {l : Line} {bytes : List ℕ} {answers : List Answer} {last : Line} → Brought l bytes answers last → l.closed ≡ false → last.closed ≡ false
+last-open (done l) o = o
+last-open (call l cut more own answers last d) o = last-open d (((calls l).sound cut own).still_open o)
 
 -- a call has the answers of the run over its bytes, and leaves its chips
 same-run : (l : Line) (cut : List ℕ) (room : ℕ) → l.closed ≡ false
@@ -35,7 +58,7 @@ same-run l cut room o =
     (λ n. let q = waits-outcome l cut room o n in (ap (λ (k : Outcome). k.answers) q, ap (λ (k : Outcome). k.line.bench) q))
 
 -- what is held, replayed, is what closing tells of it
-held-run : (h : Held) (room : ℕ) (b : Bench) → run_of (held_of h) room b ≡ stop b (closing_number h)
+held-run : (h : Held) (room : ℕ) (b : Bench) → run_of (held_of h) room b ≡ stop b (held_ending h)
 held-run Nothing room b = run_none room b
 held-run (One x) room b = run_short (x ∷ []) room b (omega arith) (omega arith)
 held-run (Two x y) room b = run_short (x ∷ y ∷ []) room b (omega arith) (omega arith)
@@ -66,8 +89,8 @@ wide (call l cut more own answers last d) o room h =
     ∙ rw (due, ← q.1, then, q.0, took)
 
 -- a run with room for all its answers does not end with 4
-not_full : (bytes : List ℕ) (room : ℕ) (b : Bench) → RoomFor bytes room → (run_of bytes room b).ending ≡ 4 → ⊥
-not_full bytes room b h e = let s = sound bytes room b in let f = s.full.0 e in absurd (omega (arith, f.0, f.1, s.taken))
+not_full : (bytes : List ℕ) (room : ℕ) (b : Bench) → RoomFor bytes room → (run_of bytes room b).ending ≡ NoRoom → ⊥
+not_full bytes room b h e = let s = sound bytes room b in let f = s.full.0 (ap ending_number e) in absurd (omega (arith, f.0, f.1, s.taken))
 
 pub brought : {l : Line} {bytes : List ℕ} {answers : List Answer} {last : Line} → Brought l bytes answers last → l.closed ≡ false
     → AsOneReplay l bytes answers last
@@ -81,11 +104,14 @@ brought {l} {bytes} {answers} {last} d o room h =
     record {
       answers-same = ap (λ (r : Run). r.answers) (sym q);
       chips-same = ap (λ (r : Run). r.bench) (sym q);
-      number_same = ap (λ (r : Run). r.ending) (sym q);
+      number_same =
+          ap (λ (k : Outcome). call_ending_number k.ending) (closing-open last (last-open d o))
+          ∙ closing-number last.held
+          ∙ ap (λ (r : Run). ending_number r.ending) (sym q);
     }
 
 pub roomy : (l : Line) → l.closed ≡ false → (cut : List ℕ) (room : ℕ) → RoomFor (held_of l.held ++ cut) room
-    → ((outcome_of l cut room).ending ≡ 0) × ((outcome_of l cut room).taken ≡ length cut)
+    → (call_ending_number (outcome_of l cut room).ending ≡ 0) × ((outcome_of l cut room).taken ≡ length cut)
 roomy l o cut room h =
     rw (waits-outcome l cut room o (not_full (held_of l.held ++ cut) room l.bench h)) (refl, refl)
 

@@ -17,7 +17,9 @@ use Rattle.answer.specs.Answer.{done_of, plain_of}
 use Rattle.bodies.proofs.Located.{located-refused}
 use Rattle.locator.specs.Cells.{cell_at}
 use Rattle.locator.specs.Locate.{refusal_of, cell_of, locate_of}
-use Rattle.locator.specs.declared.answer.Located.{Located}
+use Rattle.std.specs.Prelude.{Result}
+use Rattle.locator.specs.declared.cells.Cell.{Cell}
+use Rattle.locator.specs.declared.answer.Unlocated.{Unlocated}
 use Rattle.demand.specs.Demand.{Demand3}
 use Rattle.demand.proofs.Demand.{demand3-reached}
 use Rattle.record.specs.Decode.{decode_of}
@@ -82,15 +84,15 @@ calls-in-append (r ∷ l) m =
     ap (λ (x : List Call). own ++ x) (calls-in-append l m) ∙ sym (append_assoc own (controller_calls l) (controller_calls m))
 
 -- what the locator found, as an answer: a refusal by its number, a cell by its row and column
-refused-answer : (l : Located) (n : ℕ) → refusal_of l ≡ n → (n ≡ 0 → ⊥) → located_answer_of 9 l ≡ plain_of 9 n
+refused-answer : (l : Result Cell Unlocated) (n : ℕ) → refusal_of l ≡ n → (n ≡ 0 → ⊥) → located_answer_of 9 l ≡ plain_of 9 n
 refused-answer l n e some = located-refused 9 l (λ z. some (sym e ∙ z)) ∙ ap (plain_of 9) e
 
-found-answer : (l : Located) (row column : ℕ) → (refusal_of l ≡ 0) × (cell_of l ≡ cell_at row column) → located_answer_of 9 l ≡ done_of 9 (row ∷ column ∷ [])
+found-answer : (l : Result Cell Unlocated) (row column : ℕ) → (refusal_of l ≡ 0) × (cell_of l ≡ cell_at row column) → located_answer_of 9 l ≡ done_of 9 (row ∷ column ∷ [])
 unfolding located_body_of
 found-answer l row column h = rw (h.0, h.1)
 
 module _ (c : Controller) (d : Demand3 c) (acts : List Act) where
-  abbrev found : List Act → Located
+  abbrev found : List Act → Result Cell Unlocated
   found l = locate_of (after_acts l (reset_of c))
 
   answer3 : Answer3 c acts (located_answer_of 9 (found acts))

@@ -10,6 +10,8 @@ use lib.Seq.{take-append-add}
 use Rattle.basics.proofs.Tests.{lt-or-ge}
 use Rattle.answer.specs.declared.Answer.{Answer}
 use Rattle.bench.specs.declared.step.Bench.{Bench}
+use Rattle.replay.specs.declared.ending.Ending.{Ending}
+use Rattle.replay.specs.declared.ending.Ending.TheVariants.{Empty, CutShort, NoRoom}
 use Rattle.replay.specs.Run.{Run, onto, run_of}
 use Rattle.replay.proofs.Runs.{onto-none, onto-onto, run_none, run_short, run-full, run_more}
 use Rattle.every_record.proofs.Refusals.{refusals}
@@ -21,7 +23,7 @@ pub record Took (batch : List ℕ) (b : Bench) (r : Run) : Type 0 where
   pub bytes : take r.taken batch ≡ sent_of records
   pub answered : Answered b records r.answers r.bench
 
-nothing : (batch : List ℕ) (room : ℕ) (b : Bench) (ending : ℕ) → run_of batch room b ≡ record { bench = b; ending = ending; taken = 0; answers = [] }
+nothing : (batch : List ℕ) (room : ℕ) (b : Bench) (ending : Ending) → run_of batch room b ≡ record { bench = b; ending = ending; taken = 0; answers = [] }
     → Took batch b (run_of batch room b)
 unfolding sent_of
 nothing batch room b ending e = rw e (record { records = []; bytes = refl; answered = none b })
@@ -41,13 +43,13 @@ in-front b r l answers last d =
 
 pub took : (batch : List ℕ) (room : ℕ) (b : Bench) → Took batch b (run_of batch room b)
 unfolding sent_of
-took [] room b = nothing [] room b 0 (run_none room b)
-took (x ∷ []) room b = nothing (x ∷ []) room b 3 (run_short (x ∷ []) room b (omega arith) (omega arith))
-took (x ∷ y ∷ []) room b = nothing (x ∷ y ∷ []) room b 3 (run_short (x ∷ y ∷ []) room b (omega arith) (omega arith))
-took (x ∷ y ∷ z ∷ []) room b = nothing (x ∷ y ∷ z ∷ []) room b 3 (run_short (x ∷ y ∷ z ∷ []) room b (omega arith) (omega arith))
+took [] room b = nothing [] room b Empty (run_none room b)
+took (x ∷ []) room b = nothing (x ∷ []) room b CutShort (run_short (x ∷ []) room b (omega arith) (omega arith))
+took (x ∷ y ∷ []) room b = nothing (x ∷ y ∷ []) room b CutShort (run_short (x ∷ y ∷ []) room b (omega arith) (omega arith))
+took (x ∷ y ∷ z ∷ []) room b = nothing (x ∷ y ∷ z ∷ []) room b CutShort (run_short (x ∷ y ∷ z ∷ []) room b (omega arith) (omega arith))
 took (kind ∷ hi ∷ lo ∷ value ∷ rest) room b =
     ⊎_elim
-    (λ (g : room < 8). nothing (kind ∷ hi ∷ lo ∷ value ∷ rest) room b 4 (run-full kind hi lo value rest room b g))
+    (λ (g : room < 8). nothing (kind ∷ hi ∷ lo ∷ value ∷ rest) room b NoRoom (run-full kind hi lo value rest room b g))
     (λ (g : 8 ≤ room).
     let sent : Sent = record { kind = kind; hi = hi; lo = lo; value = value } in
     let s = stepped b sent in

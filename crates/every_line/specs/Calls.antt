@@ -2,6 +2,8 @@
 use Rattle.std.specs.Prelude.{ℕ, ◌+◌, ◌-◌, ◌*◌, ◌≤◌, ◌<◌, true, false, List, [], ◌++◌, ◌↔◌, ◌⊎◌, ◌≡◌, length, take, drop}
 use Rattle.line.specs.Held.{held_of}
 use Rattle.replay.specs.Run.{written_of}
+use Rattle.line.specs.CallEnding.{call_ending_number}
+use Rattle.line.specs.declared.ending.CallEnding.TheVariants.{Closed}
 use Rattle.line.specs.Line.{Outcome, unmoved_of, outcome_of, closing_of, accepted_of}
 use Rattle.line.specs.declared.calls.Line.{Line}
 use Rattle.every_line.specs.Records.{Sent, sent_of, Answered}
@@ -13,17 +15,17 @@ holds l = length (held_of l.held)
 -- a cut on a line, into so much room: each ending number in its own case and in no other, and no byte lost or read twice
 pub record SoundCall (l : Line) (cut : List ℕ) (room : ℕ) (o : Outcome) : Type 0 where
   -- a cut ends with 0, 4 or 12, and so never with 3
-  pub endings : (o.ending ≡ 0) ⊎ (o.ending ≡ 4) ⊎ (o.ending ≡ 12)
+  pub endings : (call_ending_number o.ending ≡ 0) ⊎ (call_ending_number o.ending ≡ 4) ⊎ (call_ending_number o.ending ≡ 12)
   -- 12 on a closed line, and on no other; the line stays as it was, no byte is taken, and nothing is answered
-  pub closed : (o.ending ≡ 12) ↔ (l.closed ≡ true)
-  pub unmoved : l.closed ≡ true → o ≡ unmoved_of l 12
+  pub closed : (call_ending_number o.ending ≡ 12) ↔ (l.closed ≡ true)
+  pub unmoved : l.closed ≡ true → o ≡ unmoved_of l Closed
   -- 4 on an open line where a whole record is left and no room for its answer, and nowhere else. Then no byte of the cut is taken but those of
   -- the answered records, and the line holds nothing but what it held before, as far as no answer has used it up.
-  pub full : l.closed ≡ false → (o.ending ≡ 4) ↔ ((4 * length o.answers + 4 ≤ holds l + length cut) × (room < 8 * length o.answers + 8))
-  pub full-takes : o.ending ≡ 4 → o.taken ≡ 4 * length o.answers - holds l
-  pub full-keeps : o.ending ≡ 4 → held_of o.line.held ≡ drop (4 * length o.answers) (held_of l.held)
+  pub full : l.closed ≡ false → (call_ending_number o.ending ≡ 4) ↔ ((4 * length o.answers + 4 ≤ holds l + length cut) × (room < 8 * length o.answers + 8))
+  pub full-takes : call_ending_number o.ending ≡ 4 → o.taken ≡ 4 * length o.answers - holds l
+  pub full-keeps : call_ending_number o.ending ≡ 4 → held_of o.line.held ≡ drop (4 * length o.answers) (held_of l.held)
   -- 0 where the cut is taken to its end, and an open line stays open
-  pub all : o.ending ≡ 0 → o.taken ≡ length cut
+  pub all : call_ending_number o.ending ≡ 0 → o.taken ≡ length cut
   pub still_open : l.closed ≡ false → o.line.closed ≡ false
   -- never more than three bytes are held, no more taken than the cut has, and each answer has its eight bytes of room
   pub three : holds o.line ≤ 3
@@ -56,10 +58,10 @@ pub record Closes (l : Line) : Type 0 where
   pub held : (closing_of l).line.held ≡ l.held
   pub nothing : ((closing_of l).taken ≡ 0) × ((closing_of l).answers ≡ [])
   -- an open one ends with 0 where it holds nothing, and with 3 where it holds one to three bytes
-  pub zero : l.closed ≡ false → ((closing_of l).ending ≡ 0) ↔ (holds l ≡ 0)
-  pub three : l.closed ≡ false → ((closing_of l).ending ≡ 3) ↔ ((1 ≤ holds l) × (holds l ≤ 3))
+  pub zero : l.closed ≡ false → (call_ending_number (closing_of l).ending ≡ 0) ↔ (holds l ≡ 0)
+  pub three : l.closed ≡ false → (call_ending_number (closing_of l).ending ≡ 3) ↔ ((1 ≤ holds l) × (holds l ≤ 3))
   -- one that is closed already ends with 12, and nothing changes
-  pub again : l.closed ≡ true → closing_of l ≡ unmoved_of l 12
+  pub again : l.closed ≡ true → closing_of l ≡ unmoved_of l Closed
 
 -- every call on a line
 pub record Calls (l : Line) : Type 0 where

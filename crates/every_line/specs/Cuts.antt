@@ -1,7 +1,9 @@
 -- What cuts are together (document 02, W3): one replay over the joined bytes. proofs/Cuts.antt shows it.
 use Rattle.std.specs.Prelude.{ℕ, ◌*◌, ◌/◌, ◌≤◌, false, List, [], ◌∷◌, ◌++◌, ◌≡◌, length, drop}
 use Rattle.answer.specs.declared.Answer.{Answer}
+use Rattle.replay.specs.Ending.{ending_number}
 use Rattle.replay.specs.Run.{Run, run_of}
+use Rattle.line.specs.CallEnding.{call_ending_number}
 use Rattle.line.specs.Held.{held_of}
 use Rattle.line.specs.Line.{outcome_of, closing_of}
 use Rattle.line.specs.declared.calls.Line.{Line}
@@ -15,7 +17,7 @@ RoomFor bytes room = 8 * (length bytes / 4) ≤ room
 pub record Same (answers : List Answer) (last : Line) (r : Run) : Type 0 where
   pub answers-same : answers ≡ r.answers
   pub chips-same : (closing_of last).line.bench ≡ r.bench
-  pub number_same : (closing_of last).ending ≡ r.ending
+  pub number_same : call_ending_number (closing_of last).ending ≡ ending_number r.ending
 
 -- one replay over what a line holds and over bytes behind it, with room for all its answers, is what calls gave
 abbrev pub AsOneReplay : Line → List ℕ → List Answer → Line → Type 0
@@ -64,4 +66,4 @@ pub record Together (l : Line) : Type 0 where
   pub brought : l.closed ≡ false → (bytes : List ℕ) (answers : List Answer) (last : Line) → Brought l bytes answers last → AsOneReplay l bytes answers last
   -- a call that has room for the answers that it can give ends with 0, and takes its cut whole
   pub roomy : l.closed ≡ false → (cut : List ℕ) (room : ℕ) → RoomFor (held_of l.held ++ cut) room
-      → ((outcome_of l cut room).ending ≡ 0) × ((outcome_of l cut room).taken ≡ length cut)
+      → (call_ending_number (outcome_of l cut room).ending ≡ 0) × ((outcome_of l cut room).taken ≡ length cut)

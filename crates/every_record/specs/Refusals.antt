@@ -1,12 +1,11 @@
 -- What holds of every record's answer (document 01, "Records and what comes back", the table of refusals). proofs/Refusals.antt shows it.
-use Rattle.std.specs.Prelude.{ℕ, ◌≡◌}
+use Rattle.std.specs.Prelude.{ℕ, ◌≡◌, Ok, Err}
 use Rattle.answer.specs.Answer.{plain_of}
 use Rattle.locator.specs.Locate.{refusal_of, locate_of}
 use Rattle.record.specs.Decode.{decode_of, number_of}
 use Rattle.record.specs.declared.event.Event.{Event}
 use Rattle.record.specs.declared.event.Event.TheVariants.{Write, Read, Clocks, Strike, Reset, Cycle, Fetches, Levels, Locate}
 use Rattle.record.specs.declared.kinds.Refusal.{Refusal}
-use Rattle.record.specs.declared.kinds.Decoded.TheVariants.{Known, Refused}
 use Rattle.bench.specs.Step.{step_of}
 use Rattle.bench.specs.declared.step.Bench.{Bench}
 
@@ -35,6 +34,6 @@ pub record Refusals (b : Bench) (kind hi lo value : ℕ) : Type 0 where
   -- refused or done, the answer begins with the kind byte as it came
   pub first : (step_of b kind hi lo value).answer.kind ≡ kind
   -- 1 and 2 for a record that is no event, the two cases being those that `Refusals` of the crate `record` tells apart
-  pub decoded : (r : Refusal) → decode_of kind hi lo value ≡ Refused r → told_number b kind hi lo value ≡ number_of (Refused r)
+  pub decoded : (r : Refusal) → decode_of kind hi lo value ≡ Err r → told_number b kind hi lo value ≡ number_of (Err r)
   -- and for one that is, the number of its event on this bench; 0 is done
-  pub known : (e : Event) → decode_of kind hi lo value ≡ Known e → told_number b kind hi lo value ≡ event_refusal_of b e
+  pub known : (e : Event) → decode_of kind hi lo value ≡ Ok e → told_number b kind hi lo value ≡ event_refusal_of b e

@@ -8,6 +8,7 @@ use lib.ListN.{length}
 use Rattle.basics.proofs.Tests.{lt-or-ge}
 use Rattle.bench.specs.Step.{step_of}
 use Rattle.bench.specs.declared.step.Bench.{Bench}
+use Rattle.replay.specs.Ending.{ending_number}
 use Rattle.replay.specs.Run.{Run, run_of}
 use Rattle.replay.proofs.Runs.{run_none, run_short, run-full, run_more}
 use Rattle.every_replay.specs.Runs.{Sound}
@@ -22,7 +23,7 @@ record Core (batch : List ℕ) (room : ℕ) (r : Run) : Type 0 where
   pub taken : r.taken ≡ 4 * length r.answers
   pub within : r.taken ≤ length batch
   pub has_room : 8 * length r.answers ≤ room
-  pub end : End r.ending (length batch - r.taken) (room - 8 * length r.answers)
+  pub end : End (ending_number r.ending) (length batch - r.taken) (room - 8 * length r.answers)
 
 cut : (batch : List ℕ) (room : ℕ) (b : Bench) → 0 < length batch → length batch < 4 → Core batch room (run_of batch room b)
 cut batch room b h k =
@@ -51,7 +52,7 @@ core (kind ∷ hi ∷ lo ∷ value ∷ rest) room b =
 
 sound-core : (batch : List ℕ) (room : ℕ) (r : Run) → Core batch room r → Sound batch room r
 sound-core batch room r c = by_end c.end where
-  by_end : End r.ending (length batch - r.taken) (room - 8 * length r.answers) → Sound batch room r
+  by_end : End (ending_number r.ending) (length batch - r.taken) (room - 8 * length r.answers) → Sound batch room r
   by_end (empty e l) =
       record {
         taken = c.taken;

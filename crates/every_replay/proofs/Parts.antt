@@ -9,13 +9,16 @@ use lib.Seq.{take-append-add}
 use Rattle.basics.proofs.Tests.{lt-or-ge}
 use Rattle.bench.specs.Step.{step_of}
 use Rattle.bench.specs.declared.step.Bench.{Bench}
+use Rattle.replay.specs.Ending.{ending_number}
+use Rattle.replay.specs.declared.ending.Ending.{Ending}
+use Rattle.replay.specs.declared.ending.Ending.TheVariants.{Empty, CutShort, NoRoom}
 use Rattle.replay.specs.Run.{stop, onto, run_of}
 use Rattle.replay.proofs.Runs.{onto-none, onto-onto, run_none, run_short, run-full, run_more}
 use Rattle.every_replay.specs.Runs.{and_then, Runs}
 use Rattle.every_replay.proofs.Counts.{sound}
 
 -- nothing taken and nothing answered
-nothing : (more : List ℕ) (wide : ℕ) (b : Bench) (ending : ℕ) → run_of more wide b ≡ and_then (stop b ending) more wide
+nothing : (more : List ℕ) (wide : ℕ) (b : Bench) (ending : Ending) → run_of more wide b ≡ and_then (stop b ending) more wide
 nothing more wide b ending = ap (λ (k : ℕ). run_of more k b) (omega arith) ∙ onto-none (run_of more (wide - 0) b)
 
 -- what was taken of a batch begins with its first record
@@ -24,13 +27,13 @@ take-record kind hi lo value rest n = take-append-add (kind ∷ hi ∷ lo ∷ va
 
 pub run-taken : (batch more : List ℕ) (room wide : ℕ) (b : Bench) → 8 * length (run_of batch room b).answers ≤ wide
     → run_of (take (run_of batch room b).taken batch ++ more) wide b ≡ and_then (run_of batch room b) more wide
-run-taken [] more room wide b h = rw (run_none room b) (nothing more wide b 0)
-run-taken (x ∷ []) more room wide b h = rw (run_short (x ∷ []) room b (omega arith) (omega arith)) (nothing more wide b 3)
-run-taken (x ∷ y ∷ []) more room wide b h = rw (run_short (x ∷ y ∷ []) room b (omega arith) (omega arith)) (nothing more wide b 3)
-run-taken (x ∷ y ∷ z ∷ []) more room wide b h = rw (run_short (x ∷ y ∷ z ∷ []) room b (omega arith) (omega arith)) (nothing more wide b 3)
+run-taken [] more room wide b h = rw (run_none room b) (nothing more wide b Empty)
+run-taken (x ∷ []) more room wide b h = rw (run_short (x ∷ []) room b (omega arith) (omega arith)) (nothing more wide b CutShort)
+run-taken (x ∷ y ∷ []) more room wide b h = rw (run_short (x ∷ y ∷ []) room b (omega arith) (omega arith)) (nothing more wide b CutShort)
+run-taken (x ∷ y ∷ z ∷ []) more room wide b h = rw (run_short (x ∷ y ∷ z ∷ []) room b (omega arith) (omega arith)) (nothing more wide b CutShort)
 run-taken (kind ∷ hi ∷ lo ∷ value ∷ rest) more room wide b h =
     ⊎_elim
-    (λ (g : room < 8). rw (run-full kind hi lo value rest room b g) (nothing more wide b 4))
+    (λ (g : room < 8). rw (run-full kind hi lo value rest room b g) (nothing more wide b NoRoom))
     (λ (g : 8 ≤ room).
     let s = step_of b kind hi lo value in
     let r = run_of rest (room - 8) s.bench in
@@ -59,10 +62,10 @@ pub run-then : (batch more : List ℕ) (room : ℕ) (b : Bench)
     → run_of (batch ++ more) room b ≡ and_then (run_of batch room b) (drop (run_of batch room b).taken batch ++ more) room
 run-then batch more room b = run_on batch more room room b (sound batch room b).has_room
 
-pub run-whole : (batch more : List ℕ) (room : ℕ) (b : Bench) → (run_of batch room b).ending ≡ 0
+pub run-whole : (batch more : List ℕ) (room : ℕ) (b : Bench) → (run_of batch room b).ending ≡ Empty
     → run_of (batch ++ more) room b ≡ and_then (run_of batch room b) more room
 run-whole batch more room b h =
-    let all : length batch ≤ (run_of batch room b).taken = omega (arith, (sound batch room b).none.0 h) in
+    let all : length batch ≤ (run_of batch room b).taken = omega (arith, (sound batch room b).none.0 (ap ending_number h)) in
     let none : drop (run_of batch room b).taken batch ≡ [] = drop_of_length-le batch all in
     run-then batch more room b ∙ rw none
 

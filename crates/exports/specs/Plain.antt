@@ -1,15 +1,16 @@
 -- The answers of the chips as plain numbers, for programs in other languages (document 01, the table of refusals and "The
 -- multiplexer"). What they say is defined with the chips; here it is only laid out.
-use Rattle.std.specs.Prelude.{ℕ}
+use Rattle.std.specs.Prelude.{ℕ, Result}
 use Rattle.locator.specs.Locate.{refusal_of, cell_of}
-use Rattle.locator.specs.declared.answer.Located.{Located}
+use Rattle.locator.specs.declared.answer.Unlocated.{Unlocated}
+use Rattle.locator.specs.declared.cells.Cell.{Cell}
 use Rattle.display.specs.declared.counter.Display.{Display}
 use Rattle.multiplexer.specs.Chip.{fresh_of, with_control, with_display, fetches_of}
 use Rattle.multiplexer.specs.declared.chip.Multiplexer.{Multiplexer}
 use Rattle.exports.specs.declared.Found.{Found}
 
 -- an answer of the locator: its number in the table of refusals, and its cell
-abbrev pub found_of : Located → Found
+abbrev pub found_of : Result Cell Unlocated → Found
 found_of q = record { refusal = refusal_of q; row = (cell_of q).row; column = (cell_of q).column }
 
 -- a fresh multiplexer but for its control bits and its display counter

@@ -1,5 +1,6 @@
 // The calls for programs in other languages, each by value and over plain data: the controller's, the locator's answer as numbers, the
-// display counter, and the report on a batch of settings. The crate exports_c hands them on to C.
+// display counter, and the report on a batch of settings. The crate exports_c hands them on to C. Calls of one shape stay apart: C knows
+// each by its name.
 #![tactic(auto)]
 
 ghost use Rattle.std.specs.Prelude.{◌≡◌};
@@ -39,7 +40,7 @@ pub fn controller_reset(c: Controller) -> Controller
     c.reset()
 }
 
-// A register write, by RS.
+// A register write, by RS. The three stay apart: C hands them over so.
 pub fn controller_write(c: Controller, rs: bool, value: u8) -> Controller
     ensures { result ≡ write_of c rs value }
 {
@@ -85,12 +86,17 @@ pub fn controller_newest(c: Controller) -> Strike
 pub fn controller_locate(c: Controller) -> Found
     ensures { result ≡ found_of (locate_of c) }
 {
-    let q = locator::locate(c);
-    let cell = q.cell();
-    Found {
-        refusal: q.refusal(),
-        row: cell.row,
-        column: cell.column,
+    match locator::locate(c) {
+        Ok(cell) => Found {
+            refusal: 0,
+            row: cell.row,
+            column: cell.column,
+        },
+        Err(why) => Found {
+            refusal: u8::from(why),
+            row: 0,
+            column: 0,
+        },
     }
 }
 
@@ -98,19 +104,23 @@ pub fn controller_locate(c: Controller) -> Found
 pub fn display_fetches(bits: u16, from: Display, n: u16) -> Display
     ensures { result ≡ fetched_of bits from n }
 {
-    let control = Control { bits: bits };
-    let mut m = Multiplexer::fresh();
-    m.control = control;
-    m.display = from;
+    let m = Multiplexer {
+        control: Control { bits },
+        display: from,
+        ..Multiplexer::fresh()
+    };
     m.fetches(n).display
 }
 
 // The report on a batch of settings, into places of 64 bits: 0, or the number of the refusal.
+#[tactic(auto, unfolding(report::specs::Report::refusal_of))]
 pub fn settings_report(settings: &[u8], places: &mut [u64]) -> u8
     ensures said { result ≡ refusal_of settings.now places.old }
     ensures laid { places.new ≡ reported_of settings.now places.old }
     ensures kept { settings.exit.now ≡ settings.entry.now }
 {
-    let said = report::report(settings, places);
-    said
+    match report::report(settings, places) {
+        Ok(()) => 0,
+        Err(why) => u8::from(why),
+    }
 }

@@ -1,5 +1,5 @@
 // The archive that programs in other languages link: each call of the crate exports under its name in C, and nothing of its own.
-// include/vorstelpijp.h declares them.
+// include/vorstelpijp.h declares them. Calls of one shape stay apart: C knows each by its name.
 #![tactic(auto)]
 
 ghost use Rattle.std.specs.Prelude.{◌≡◌};
@@ -31,7 +31,7 @@ pub extern "C" fn controller_reset(c: Controller) -> Controller
     exports::controller_reset(c)
 }
 
-// A register write, by RS.
+// A register write, by RS. The three stay apart: C hands them over so.
 #[unsafe(no_mangle)]
 pub extern "C" fn controller_write(c: Controller, rs: bool, value: u8) -> Controller
     ensures { result ≡ write_of c rs value }

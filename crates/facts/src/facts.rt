@@ -3,7 +3,7 @@ ghost use Rattle.std.specs.Prelude.{◌≡◌, ◌+◌, ◌%◌};
 ghost use Rattle.basics.specs.Bits.{word_of, high_of, low_of};
 ghost use Rattle.facts.specs.Facts.{picture_of, address_of, ma_of, latch_of, blink_of, cursor_line_of, cursor_of, facts_of};
 
-use basics::{Width, word};
+use basics::{Width, high, low, word};
 use raster::{Registers, Scan};
 
 // The two facts that a delayed pin shows one character late.
@@ -15,6 +15,7 @@ pub struct Facts {
 }
 
 impl Facts {
+    #[tactic(auto, unfolding(crate::specs::Facts::facts_of))]
     pub fn at(r: Registers, s: Scan) -> Facts
         ensures { result ≡ facts_of r s }
     {
@@ -25,6 +26,7 @@ impl Facts {
     }
 }
 
+#[tactic(auto, unfolding(crate::specs::Facts::picture_of))]
 pub fn picture(r: Registers, s: Scan) -> bool
     ensures { result ≡ picture_of r s }
 {
@@ -35,20 +37,26 @@ pub fn picture(r: Registers, s: Scan) -> bool
 fn by_row_and_column(start: u16, row: u8, column: u8) -> u16
     ensures { result ≡ word_of ((high_of start + row) % 64) ((low_of start + column) % 256) }
 {
-    256 * ((start / 256 + (row as u16)) % 64) + (start % 256 + (column as u16)) % 256
+    word(
+        high(start).wrapping_add(row) % 64,
+        low(start).wrapping_add(column),
+    )
 }
 
 // The address at a row and a column, with the frame's start and the row's base.
+#[tactic(auto, using(basics::proofs::Cases::cases), unfolding(crate::specs::Facts::address_of))]
 fn address(r: Registers, start: u16, base: u16, row: u8, column: u8) -> u16
     ensures { result ≡ address_of r start base row column }
 {
     if r.by_rows() {
-        return by_row_and_column(start, row, column);
+        by_row_and_column(start, row, column)
+    } else {
+        Width::Fourteen.counted(base, column as u16)
     }
-    Width::Fourteen.counted(base, column as u16)
 }
 
 // MA at this character.
+#[tactic(auto, unfolding(crate::specs::Facts::ma_of))]
 pub fn ma(r: Registers, s: Scan) -> u16
     ensures { result ≡ ma_of r s }
 {
@@ -56,27 +64,26 @@ pub fn ma(r: Registers, s: Scan) -> u16
 }
 
 // What a strike at this character latches: MA two character times on.
+#[tactic(auto, unfolding(crate::specs::Facts::latch_of))]
 pub fn latch(r: Registers, s: Scan) -> u16
     ensures { result ≡ latch_of r s }
 {
-    let next = s.next(r);
-    let there = next.next(r);
-    ma(r, there)
+    ma(r, s.next(r).next(r))
 }
 
 // Whether the cursor's blink shows it, by R10 and the field.
+#[tactic(auto, using(basics::proofs::Cases::cases), unfolding(crate::specs::Facts::blink_of))]
 fn blink(r10: u8, field: u8) -> bool
     ensures { result ≡ blink_of r10 field }
 {
-    if r10 / 64 % 2 == 1 {
-        if r10 / 32 % 2 == 1 {
-            return !(field / 16 % 2 == 1);
-        }
-        return !(field / 8 % 2 == 1);
+    match (r10 / 64 % 2 == 1, r10 / 32 % 2 == 1) {
+        (false, never) => !never,
+        (true, false) => field / 8 % 2 == 0,
+        (true, true) => field / 16 % 2 == 0,
     }
-    !(r10 / 32 % 2 == 1)
 }
 
+#[tactic(auto, unfolding(crate::specs::Facts::cursor_line_of))]
 fn cursor_line(r: Registers, line: u8) -> bool
     ensures { result ≡ cursor_line_of r line }
 {
@@ -84,6 +91,7 @@ fn cursor_line(r: Registers, line: u8) -> bool
 }
 
 // Whether the cursor shows at this character.
+#[tactic(auto, unfolding(crate::specs::Facts::cursor_of))]
 pub fn cursor(r: Registers, s: Scan) -> bool
     ensures { result ≡ cursor_of r s }
 {

@@ -12,6 +12,7 @@ use Rattle.bench.specs.Step.{step_of}
 use Rattle.bench.specs.declared.step.Bench.{Bench}
 use Rattle.bench.specs.declared.step.Stepped.{Stepped}
 use Rattle.replay.specs.Run.{Run, onto, after, run_of, written_of}
+use Rattle.replay.specs.declared.ending.Ending.TheVariants.{Empty}
 use Rattle.replay.proofs.Runs.{run_none, run_more}
 use Rattle.replay.proofs.Replaying.{length-written, record-at}
 use Rattle.line.specs.Held.{held_of}
@@ -39,7 +40,7 @@ module _ (b : Bench) (h : Held) (cut : List ℕ) (room k : ℕ) (lacks : k + len
   s = stepped_of b all
 
   -- the first record by itself
-  pub alone : run_of (first_record all) room b ≡ record { bench = s.bench; ending = 0; taken = 4; answers = s.answer ∷ [] }
+  pub alone : run_of (first_record all) room b ≡ record { bench = s.bench; ending = Empty; taken = 4; answers = s.answer ∷ [] }
   alone = run_more (get_or all 0 0) (get_or all 1 0) (get_or all 2 0) (get_or all 3 0) [] room b free ∙ ap (onto 4 (s.answer ∷ [])) (run_none (room - 8) s.bench)
 
   past : drop (0 + 4) all ≡ drop k cut

@@ -1,5 +1,4 @@
 pub mod Holding
 pub mod Calling
 pub mod Accepting
-pub mod Meeting
 pub mod Completing

@@ -1,5 +1,7 @@
 -- The bytes of an unfinished record that a line holds between calls (document 02, W3: three at the most).
 use Rattle.std.specs.Prelude.{ℕ, List, [], ◌∷◌}
+use Rattle.line.specs.declared.ending.CallEnding.{CallEnding}
+use Rattle.line.specs.declared.ending.CallEnding.TheVariants.{Done, CutShort}
 use Rattle.line.specs.declared.held.Held.{Held}
 use Rattle.line.specs.declared.held.Held.TheVariants.{Nothing, One, Two, Three}
 
@@ -17,9 +19,9 @@ holding_of (a ∷ []) = One a
 holding_of (a ∷ b ∷ []) = Two a b
 holding_of (a ∷ b ∷ c ∷ more) = Three a b c
 
--- the number that a line closes with: 3 for a record that was begun and never became whole, else 0
-abbrev pub closing_number : Held → ℕ
-closing_number Nothing = 0
-closing_number (One a) = 3
-closing_number (Two a b) = 3
-closing_number (Three a b c) = 3
+-- how a line closes: cut short, with 3, where a record was begun and never became whole, else done, with 0
+abbrev pub closing_ending : Held → CallEnding
+closing_ending Nothing = Done
+closing_ending (One a) = CutShort
+closing_ending (Two a b) = CutShort
+closing_ending (Three a b c) = CutShort

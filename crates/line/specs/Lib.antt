@@ -1,3 +1,4 @@
+pub mod CallEnding
 pub mod Held
 pub mod Line
 pub mod private

@@ -1,12 +1,16 @@
 -- The two calls on a line (document 02, W3). What a cut gives is said by the replay that stands: a run over the bytes held and the cut.
-use Rattle.std.specs.Prelude.{ℕ, ◌-◌, true, false, List, [], ◌++◌, eqb, length, drop}
+use Rattle.std.specs.Prelude.{ℕ, ◌-◌, true, false, List, [], ◌++◌, length, drop}
 use Rattle.basics.specs.Choice.{when◌then◌else◌}
 use Rattle.basics.specs.Lay.{laid_at}
 use Rattle.answer.specs.declared.Answer.{Answer}
 use Rattle.bench.specs.declared.step.Bench.{Bench}
 use Rattle.replay.specs.Run.{Run, run_of, written_of}
+use Rattle.replay.specs.declared.ending.Ending.{Ending}
+use Rattle.replay.specs.declared.ending.Ending.TheVariants as run_ends
 use Rattle.batch.specs.Fresh.{fresh_bench}
-use Rattle.line.specs.Held.{held_of, holding_of, closing_number}
+use Rattle.line.specs.Held.{held_of, holding_of, closing_ending}
+use Rattle.line.specs.declared.ending.CallEnding.{CallEnding}
+use Rattle.line.specs.declared.ending.CallEnding.TheVariants.{Done, NoRoom, Closed}
 use Rattle.line.specs.declared.held.Held.{Held}
 use Rattle.line.specs.declared.held.Held.TheVariants.{Nothing}
 use Rattle.line.specs.declared.calls.Line.{Line}
@@ -24,15 +28,15 @@ empty_of b = open_of b Nothing
 abbrev pub fresh_line : Line
 fresh_line = empty_of fresh_bench
 
--- what a call comes to: the line after it, its ending number, how many bytes of its own cut it took, and its answers in order
+-- what a call comes to: the line after it, how it ended, how many bytes of its own cut it took, and its answers in order
 pub record Outcome : Type 0 where
   pub line : Line
-  pub ending : ℕ
+  pub ending : CallEnding
   pub taken : ℕ
   pub answers : List Answer
 
 -- a call that changes nothing, takes nothing and answers nothing
-abbrev pub unmoved_of : Line → ℕ → Outcome
+abbrev pub unmoved_of : Line → CallEnding → Outcome
 unmoved_of l ending = record { line = l; ending = ending; taken = 0; answers = [] }
 
 -- the bytes held and the cut behind them, read as one run of records, with so much room for its answers
@@ -44,7 +48,7 @@ abbrev pub waits_of : Line → List ℕ → Run → Outcome
 waits_of l cut r =
     record {
       line = open_of r.bench (holding_of (drop r.taken (held_of l.held ++ cut)));
-      ending = 0;
+      ending = Done;
       taken = length cut;
       answers = r.answers;
     }
@@ -55,24 +59,29 @@ abbrev pub full_of : Line → Run → Outcome
 full_of l r =
     record {
       line = open_of r.bench (holding_of (drop r.taken (held_of l.held)));
-      ending = 4;
+      ending = NoRoom;
       taken = r.taken - length (held_of l.held);
       answers = r.answers;
     }
+
+-- A cut on an open line, by the run over its bytes and how that ends: for want of room, or with less than a record left.
+abbrev pub open_outcome_of : Line → List ℕ → Run → Ending → Outcome
+open_outcome_of l cut r run_ends.NoRoom = full_of l r
+open_outcome_of l cut r run_ends.Empty = waits_of l cut r
+open_outcome_of l cut r run_ends.CutShort = waits_of l cut r
 
 -- A cut, into so much room. A closed line is looked at before all else: 12. An open one gives 4 where the run ends for want of room, and
 -- else 0. So no cut ends with 3: what a run leaves of a record waits for the next cut.
 unfoldable pub outcome_of : Line → List ℕ → ℕ → Outcome
 outcome_of l cut room =
-    when l.closed then unmoved_of l 12
-    else when eqb (run_over l cut room).ending 4 then full_of l (run_over l cut room)
-    else waits_of l cut (run_over l cut room)
+    when l.closed then unmoved_of l Closed
+    else open_outcome_of l cut (run_over l cut room) (run_over l cut room).ending
 
 -- Closing. Decision: the bytes still held stay in the line, where they can be looked at; no call reads them again, since each meets 12.
 unfoldable pub closing_of : Line → Outcome
 closing_of l =
-    when l.closed then unmoved_of l 12
-    else unmoved_of (record { bench = l.bench; held = l.held; closed = true }) (closing_number l.held)
+    when l.closed then unmoved_of l Closed
+    else unmoved_of (record { bench = l.bench; held = l.held; closed = true }) (closing_ending l.held)
 
 -- what a call returns: its answers by their number
 abbrev pub called_of : Outcome → Called

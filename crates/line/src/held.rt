@@ -1,7 +1,9 @@
 // The bytes of a record that is not whole yet.
 ghost use Rattle.std.specs.Prelude.{◌≡◌, ◌∷◌, [], ◌++◌, ◌+◌, ◌≤◌, length};
-ghost use Rattle.line.specs.Held.{held_of, holding_of, closing_number};
+ghost use Rattle.line.specs.Held.{held_of, holding_of, closing_ending};
 ghost use Rattle.line.specs.private.Calls.{first_record};
+
+use crate::ending::CallEnding;
 
 // A fourth byte cannot be held: there is no way to say it.
 #[derive(Clone, Copy)]
@@ -20,24 +22,23 @@ impl Held {
         match self {
             Held::Nothing => 4,
             Held::One(_) => 3,
-            Held::Two(_, _) => 2,
-            Held::Three(_, _, _) => 1,
+            Held::Two(..) => 2,
+            Held::Three(..) => 1,
         }
     }
 
-    // The number that a line closes with.
-    pub(crate) fn number(self) -> u8
-        ensures { result ≡ closing_number self }
+    // How a line closes.
+    pub(crate) fn ending(self) -> CallEnding
+        ensures { result ≡ closing_ending self }
     {
         match self {
-            Held::Nothing => 0,
-            Held::One(_) => 3,
-            Held::Two(_, _) => 3,
-            Held::Three(_, _, _) => 3,
+            Held::Nothing => CallEnding::Done,
+            Held::One(_) | Held::Two(..) | Held::Three(..) => CallEnding::CutShort,
         }
     }
 
     // One byte more, where there is a place for it.
+    #[tactic(auto, unfolding(crate::specs::Held::holding_of))]
     fn and_byte(self, byte: u8) -> Held
         ensures { result ≡ holding_of (held_of self ++ (byte ∷ [])) }
     {
@@ -45,7 +46,7 @@ impl Held {
             Held::Nothing => Held::One(byte),
             Held::One(a) => Held::Two(a, byte),
             Held::Two(a, b) => Held::Three(a, b, byte),
-            Held::Three(a, b, c) => Held::Three(a, b, c),
+            Held::Three(..) => self,
         }
     }
 
@@ -54,10 +55,8 @@ impl Held {
         ensures { result ≡ holding_of (held_of self ++ bytes.now) }
     {
         let mut held = self;
-        let mut i: usize = 0;
-        while i < bytes.len() {
-            held = held.and_byte(bytes[i]);
-            i += 1;
+        for byte in bytes {
+            held = held.and_byte(*byte);
         }
         held
     }

@@ -2,7 +2,9 @@
 #![tactic(auto)]
 
 mod calls;
+mod ending;
 mod held;
 
 pub use calls::{Called, Line};
+pub use ending::CallEnding;
 pub use held::Held;

@@ -1,6 +1,7 @@
 -- What the listing program prints (document 01, "Records and what comes back").
 use Rattle.std.specs.Prelude.{ℕ, ◌+◌, List, [], ◌∷◌, ◌++◌, ltb, length}
 use Rattle.basics.specs.Choice.{when◌then◌else◌}
+use Rattle.replay.specs.Ending.{ending_number}
 use Rattle.replay.specs.Run.{Run}
 use Rattle.batch.specs.Fresh.{most_bytes, most_output, fresh_run_of}
 use Rattle.text.specs.Speech.{too_long}
@@ -12,7 +13,7 @@ end_of ending = 101 ∷ 110 ∷ 100 ∷ 32 ∷ (48 + ending) ∷ 10 ∷ []
 
 -- a run's answers, each on its line, and its ending
 unfoldable pub listed_of : Run → List ℕ
-listed_of r = answer_lines_of r.answers ++ end_of r.ending
+listed_of r = answer_lines_of r.answers ++ end_of (ending_number r.ending)
 
 -- a batch on fresh chips. Its output has room for every answer, so a listing never lacks room.
 unfoldable pub batch_listing_of : List ℕ → List ℕ

@@ -1,6 +1,6 @@
 -- The list of cells has just the picture's cells, each once; so of those that pass any test, the fit tells one from several.
 -- Assumes nothing.
-use Rattle.std.proofs.Common.{◌≡◌, ℕ, zero, suc, ◌+◌, ◌*◌, ◌<◌, ◌≤◌, Bool, true, false, List, [], ◌∷◌, ◌++◌, map, sym, refl, ap, ◌∙◌, ⊎_elim, eq-or-lt_of_le, arith}
+use Rattle.std.proofs.Common.{◌≡◌, ℕ, zero, suc, ◌+◌, ◌*◌, ◌<◌, ◌≤◌, Bool, true, false, List, [], ◌∷◌, ◌++◌, map, sym, refl, ap, ◌∙◌, ⊎_elim, eq-or-lt_of_le, arith, Ok, Err}
 use mathlib.Core.List.Memᴰ
 use mathlib.Core.List.{Memᴰ}
 use Rattle.basics.specs.Choice.{when◌then◌else◌}
@@ -10,7 +10,7 @@ use Rattle.raster.specs.declared.registers.Registers.{Registers}
 use Rattle.basics.proofs.Counting.{mem-count, count-mem}
 use Rattle.locator.specs.Cells.{IsCell, columns_of, rows_of, cell_at, row_cells, cells_from, cells_of, fits_of, keep, the_fit, fit_of}
 use Rattle.locator.specs.Locate.{refusal_of, named_of}
-use Rattle.locator.specs.declared.answer.Located.TheVariants.{At, Several}
+use Rattle.locator.specs.declared.answer.Unlocated.TheVariants.{Several}
 use Rattle.locator.specs.declared.cells.Cell.{Cell}
 use Rattle.locator.specs.declared.fit.Fit.TheVariants.{One, Many}
 
@@ -138,7 +138,7 @@ module _ (r : Registers) (narrow : reg r 0 < 256) (latch : ℕ) (c : Cell) (i : 
   abbrev f : Cell → Bool
   f = fits_of r latch
 
-  pub found : ((d : Cell) → IsCell r d → fits_of r latch d ≡ true → d ≡ c) → named_of (fit_of r latch) ≡ At c
+  pub found : ((d : Cell) → IsCell r d → fits_of r latch d ≡ true → d ≡ c) → named_of (fit_of r latch) ≡ Ok c
   unfolding fit_of named_of
   found u = ap named_of
       (one-named c (keep f (cells_of r)) 0 (rows_of r * 256)
@@ -146,7 +146,7 @@ module _ (r : Registers) (narrow : reg r 0 < 256) (latch : ℕ) (c : Cell) (i : 
       (mem-keep f c (cells_of r) (mem-cells r c i) e)
       (λ d m. let q = keep-mem f d (cells_of r) m in u d (cells-mem r d q.0) q.1))
 
-  pub several : (d : Cell) → IsCell r d → fits_of r latch d ≡ true → (d ≡ c → ⊥) → named_of (fit_of r latch) ≡ Several
+  pub several : (d : Cell) → IsCell r d → fits_of r latch d ≡ true → (d ≡ c → ⊥) → named_of (fit_of r latch) ≡ Err Several
   unfolding fit_of named_of
   several d j k n =
       ap named_of (two-several c d (keep f (cells_of r)) (mem-keep f c (cells_of r) (mem-cells r c i) e) (mem-keep f d (cells_of r) (mem-cells r d j) k) n)

@@ -1,5 +1,5 @@
 -- What the locator's answer goes by, and the cell of a picture strike. Assumes nothing.
-use Rattle.std.proofs.Common.{◌≡◌, ◌≤◌, Bool, true, false, eqb, ◌⊎◌, refl, ap, ◌∙◌, ap₂, inl, inr, eqb-true}
+use Rattle.std.proofs.Common.{◌≡◌, ◌≤◌, Bool, true, false, eqb, ◌⊎◌, refl, ap, ◌∙◌, ap₂, inl, inr, eqb-true, Err}
 use borrow.Author.Tests.{eqb-false}
 use Rattle.basics.specs.Choice.{when◌then◌else◌}
 use Rattle.raster.specs.Registers.{reg, start_of, row_base_of}
@@ -14,7 +14,7 @@ use Rattle.controller.specs.declared.chip.Controller.{Controller}
 use Rattle.pen.specs.declared.pen.Strike.{Strike}
 use Rattle.locator.specs.Cells.{IsCell, cell_at, cell_scan_of, cell_latch_of, fits_of, fit_of}
 use Rattle.locator.specs.Locate.{named_of, strike_found_of, locate_of}
-use Rattle.locator.specs.declared.answer.Located.TheVariants.{Unstruck, Outside}
+use Rattle.locator.specs.declared.answer.Unlocated.TheVariants.{Unstruck, Outside}
 use Rattle.locator.specs.declared.cells.Cell.{Cell}
 use Rattle.locator.proofs.Lines.{line-fit}
 
@@ -24,7 +24,7 @@ unfolding locate_of
 locate-alike c d r h n = rw (r, h, n)
 
 module _ (c : Controller) where
-  pub locate-none : holds_of c.pen ≡ false → locate_of c ≡ Unstruck
+  pub locate-none : holds_of c.pen ≡ false → locate_of c ≡ Err Unstruck
   unfolding locate_of when◌then◌else◌
   locate-none h = rw h
 
@@ -37,7 +37,7 @@ module _ (r : Registers) (s : Strike) where
   unfolding strike_found_of when◌then◌else◌
   found_inside h = rw h
 
-  pub found-outside : s.inside ≡ false → strike_found_of r s ≡ Outside
+  pub found-outside : s.inside ≡ false → strike_found_of r s ≡ Err Outside
   unfolding strike_found_of when◌then◌else◌
   found-outside h = rw h
 

@@ -1,7 +1,6 @@
 // Where the newest strike was.
 ghost use Rattle.std.specs.Prelude.{◌≡◌};
-ghost use Rattle.locator.specs.Cells.{fit_of};
-ghost use Rattle.locator.specs.Locate.{refusal_of, cell_of, named_of, strike_found_of, locate_of};
+ghost use Rattle.locator.specs.Locate.{number_of, named_of, strike_found_of, locate_of};
 
 use crate::cells::Cell;
 use crate::fit::{Fit, picture_fit};
@@ -9,80 +8,59 @@ use controller::Controller;
 use pen::Strike;
 use raster::Registers;
 
-#[derive(Clone, Copy)]
-pub enum Located {
-    At(Cell),
+// Why no cell is named.
+#[derive(Clone, Copy, Debug, PartialEq, Eq)]
+pub enum Unlocated {
     Unstruck,
     Outside,
     Nowhere,
     Several,
 }
 
-impl Located {
-    // The answer's number in the table of refusals.
-    pub fn refusal(self) -> u8
-        ensures { result ≡ refusal_of self }
-    {
-        let l = self;
-        match l {
-            Located::At(_) => 0,
-            Located::Unstruck => 5,
-            Located::Outside => 6,
-            Located::Nowhere => 7,
-            Located::Several => 8,
-        }
-    }
+// Its number in the table of refusals.
+impl From<Unlocated> for u8 {
+    ghost from_gives = { λ why n. n ≡ number_of why };
 
-    // The cell that it names; row and column 0 where it names none.
-    pub fn cell(self) -> Cell
-        ensures { result ≡ cell_of self }
-    {
-        let none = Cell { row: 0, column: 0 };
-        let l = self;
-        match l {
-            Located::At(c) => c,
-            Located::Unstruck => none,
-            Located::Outside => none,
-            Located::Nowhere => none,
-            Located::Several => none,
+    fn from(why: Unlocated) -> u8 {
+        match why {
+            Unlocated::Unstruck => 5,
+            Unlocated::Outside => 6,
+            Unlocated::Nowhere => 7,
+            Unlocated::Several => 8,
         }
     }
 }
 
-fn named(f: Fit) -> Located
+#[tactic(auto, unfolding(crate::specs::Locate::named_of))]
+fn named(f: Fit) -> Result<Cell, Unlocated>
     ensures { result ≡ named_of f }
 {
     match f {
-        Fit::Free => Located::Nowhere,
-        Fit::One(c) => Located::At(c),
-        Fit::Many => Located::Several,
+        Fit::Free => Err(Unlocated::Nowhere),
+        Fit::One(c) => Ok(c),
+        Fit::Many => Err(Unlocated::Several),
     }
 }
 
-// The cell of a picture strike, by its latch.
-fn found(r: Registers, latch: u16) -> Located
-    ensures { result ≡ named_of (fit_of r latch) }
-{
-    named(picture_fit(r, latch))
-}
-
-// Where a strike was.
-fn strike_found(r: Registers, strike: Strike) -> Located
+// Where a strike was: outside the picture, or in the one cell that fits its latch.
+#[tactic(auto, using(basics::proofs::Cases::cases), unfolding(crate::specs::Locate::strike_found_of))]
+fn strike_found(r: Registers, strike: Strike) -> Result<Cell, Unlocated>
     ensures { result ≡ strike_found_of r strike }
 {
-    let inside = strike.inside;
-    if inside {
-        return found(r, strike.latch);
+    if strike.inside {
+        named(picture_fit(r, strike.latch))
+    } else {
+        Err(Unlocated::Outside)
     }
-    Located::Outside
 }
 
 // Where the newest strike of the controller's pen was.
-pub fn locate(c: Controller) -> Located
+#[tactic(auto, using(basics::proofs::Cases::cases), unfolding(crate::specs::Locate::locate_of))]
+pub fn locate(c: Controller) -> Result<Cell, Unlocated>
     ensures { result ≡ locate_of c }
 {
-    if c.pen.holds() {
-        return strike_found(c.regs, c.pen.newest());
+    if !c.pen.holds() {
+        return Err(Unlocated::Unstruck);
     }
-    Located::Unstruck
+    strike_found(c.regs, c.pen.newest())
 }

@@ -4,7 +4,8 @@
 mod answer;
 mod cells;
 mod fit;
+mod row;
 
-pub use answer::{Located, locate};
+pub use answer::{Unlocated, locate};
 pub use cells::Cell;
 pub use fit::Fit;

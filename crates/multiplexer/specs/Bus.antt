@@ -1,5 +1,6 @@
 -- A bus cycle (document 01, "The multiplexer", selects, ticks and barred pair; kind 6 in "Records and what comes back").
-use Rattle.std.specs.Prelude.{ℕ, ◌+◌, ◌-◌, ◌*◌, ◌/◌, Bool, ◌&&◌, ◌||◌, List, [], ◌∷◌, nat_le, nat_lt, slice_index}
+use Rattle.std.specs.Prelude.{ℕ, ◌+◌, ◌-◌, ◌*◌, ◌/◌, Bool, ◌&&◌, ◌||◌, List, [], ◌∷◌, nat_le, nat_lt, slice_index, Option, Some, None}
+use Rattle.std.specs.Option.{is_some, unwrap_or}
 use Rattle.basics.specs.Bits.{num}
 use Rattle.basics.specs.Choice.{when◌then◌else◌}
 use Rattle.control.specs.declared.bits.Control.{Control}
@@ -40,15 +41,25 @@ ticks_of c a = when r1_of c then 8 else when r0_of c then (when is_slow_of a the
 unfoldable pub is_barred_of : Control → Bool
 is_barred_of c = ty_of c && (r1_of c || r0_of c)
 
--- the cell of a RAM cycle, and zeros for any other
-unfoldable pub ram_cell_of : Control → ℕ → MemoryCell
-ram_cell_of c a = when is_ram_of c a then cell_of (side_of c) (routed_of c a) else no_cell
-
--- the flags of a cycle: 1 for RAM, 2 for a barred pair, 4 for a control write
-unfoldable pub flags_of : Control → ℕ → Bool → ℕ
-flags_of c a read = num (is_ram_of c a) + 2 * num (is_barred_of c) + 4 * num (control_write_of a read)
+-- the cell of a RAM cycle; any other has none
+unfoldable pub ram_cell_of : Control → ℕ → Option MemoryCell
+ram_cell_of c a = when is_ram_of c a then Some (cell_of (side_of c) (routed_of c a)) else None
 
 -- what a cycle shows under given control bits
 unfoldable pub cycle_of : Control → ℕ → Bool → Cycle
 cycle_of c a read =
-    record { select = select_of c a read; ticks = ticks_of c a; flags = flags_of c a read; cell = ram_cell_of c a }
+    record {
+      select = select_of c a read;
+      ticks = ticks_of c a;
+      cell = ram_cell_of c a;
+      barred = is_barred_of c;
+      control_write = control_write_of a read;
+    }
+
+-- the flags of a cycle: 1 for RAM, 2 for a barred pair, 4 for a control write
+unfoldable pub flags_of : Cycle → ℕ
+flags_of y = num (is_some y.cell) + 2 * num y.barred + 4 * num y.control_write
+
+-- the cell of a cycle as an answer tells it: zeros where the cycle is not for RAM
+abbrev pub told_cell_of : Cycle → MemoryCell
+told_cell_of y = unwrap_or y.cell no_cell

@@ -1,7 +1,6 @@
 -- The whole multiplexer, one definition for each of its records (document 01, "The multiplexer"; kinds 5 to 8 in "Records and what comes
 -- back").
-use Rattle.std.specs.Prelude.{ℕ, Bool, true, not}
-use Rattle.basics.specs.Bits.{high_of, low_of}
+use Rattle.std.specs.Prelude.{ℕ, Bool, true, not, Option}
 use Rattle.control.specs.declared.bits.Control.{Control}
 use Rattle.control.specs.Names.{clear_of, mode_of, r1_of}
 use Rattle.control.specs.Write.{after_of}
@@ -14,6 +13,7 @@ use Rattle.multiplexer.specs.Bus.{cycle_of}
 use Rattle.multiplexer.specs.Edge.{edge_of, moved_of}
 use Rattle.multiplexer.specs.Refresh.{refresh_of}
 use Rattle.multiplexer.specs.declared.bus.Cycle.{Cycle}
+use Rattle.multiplexer.specs.declared.edge.Edge.{Edge}
 use Rattle.multiplexer.specs.declared.chip.Multiplexer.{Multiplexer}
 use Rattle.multiplexer.specs.declared.chip.Bused.{Bused}
 use Rattle.multiplexer.specs.declared.chip.Shown.{Shown}
@@ -47,14 +47,13 @@ fetches_of m n = with_display (counter.fetches_of (mode_at (mode_of m.control)) 
 unfoldable pub shown_of : Multiplexer → Shown
 shown_of m =
     record {
-      high = high_of m.display.b;
-      low = low_of m.display.b;
+      address = m.display.b;
       cell = cell_of (side_of m.control) m.display.b;
       access = not (r1_of m.control);
     }
 
 -- what the levels do, given the edge that they make
-abbrev pub levelled_by : ℕ → Multiplexer → Bool → Bool → Levelled
+abbrev pub levelled_by : Option Edge → Multiplexer → Bool → Bool → Levelled
 levelled_by edge m hs da0 =
     record {
       multiplexer =
@@ -65,8 +64,7 @@ levelled_by edge m hs da0 =
             hs = hs;
           };
       edge = edge;
-      first = (refresh_of m.control edge m.refresh).first;
-      count = (refresh_of m.control edge m.refresh).count;
+      rows = (refresh_of m.control edge m.refresh).rows;
     }
 
 -- Kind 8. First the edge does its work, then B0 takes the level of DA0, edge or not; HS keeps its new level.

@@ -1,6 +1,6 @@
 // One bus cycle: what it selects, how long it lasts, and the cell that it reaches.
 ghost use Rattle.std.specs.Prelude.{◌≡◌};
-ghost use Rattle.multiplexer.specs.Bus.{is_ram_of, select_of, is_slow_of, ticks_of, is_barred_of, ram_cell_of, flags_of, cycle_of};
+ghost use Rattle.multiplexer.specs.Bus.{is_ram_of, select_of, is_slow_of, ticks_of, is_barred_of, ram_cell_of, flags_of, told_cell_of, cycle_of};
 
 use crate::cells::{MemoryCell, cell_at, no_cell, routed};
 use control::Control;
@@ -8,17 +8,40 @@ use control::Control;
 // The selects of the $FF00 block, 32 addresses each.
 const BLOCK_SELECTS: [u8; 8] = [4, 5, 6, 7, 7, 7, 7, 2];
 
-// What a cycle shows: the device select, its length in ticks of the crystal, its flags (RAM the lowest bit, then the barred pair, then a
-// control write), and its cell, zero where it is not for RAM.
+// What a cycle shows: the device select, its length in ticks of the crystal, its cell if it is for RAM, whether the control bits are a
+// barred pair, and whether it writes a control bit.
+// The select stays a number: it is the one that the chip's pins S2, S1 and S0 show, for the decoder behind them.
 #[derive(Clone, Copy)]
 pub struct Cycle {
     pub select: u8,
     pub ticks: u8,
-    pub flags: u8,
-    pub cell: MemoryCell,
+    pub cell: Option<MemoryCell>,
+    pub barred: bool,
+    pub control_write: bool,
+}
+
+impl Cycle {
+    // RAM, barred pair and control write as one number. Stays a sum by hand: three facts are packed, and no conversion of one does that.
+    #[tactic(auto, unfolding(crate::specs::Bus::flags_of))]
+    pub fn flags(self) -> u8
+        ensures { result ≡ flags_of self }
+    {
+        let ram = u8::from(self.cell.is_some());
+        let barred = u8::from(self.barred);
+        let write = u8::from(self.control_write);
+        ram + 2 * barred + 4 * write
+    }
+
+    // The cell that an answer tells, zero where the cycle is not for RAM.
+    pub fn told_cell(self) -> MemoryCell
+        ensures { result ≡ told_cell_of self }
+    {
+        self.cell.unwrap_or(no_cell())
+    }
 }
 
 // Whether the address is RAM.
+#[tactic(auto, unfolding(crate::specs::Bus::is_ram_of))]
 fn is_ram(control: Control, address: u16) -> bool
     ensures { result ≡ is_ram_of control address }
 {
@@ -26,28 +49,21 @@ fn is_ram(control: Control, address: u16) -> bool
 }
 
 // The device that the cycle selects.
+#[tactic(auto, using(basics::proofs::Cases::cases), unfolding(crate::specs::Bus::select_of))]
 fn select(control: Control, address: u16, read: bool) -> u8
     ensures { result ≡ select_of control address read }
 {
-    if 0xFF00 <= address {
-        return BLOCK_SELECTS[((address - 0xFF00) / 32) as usize];
+    match address {
+        0xFF00.. => BLOCK_SELECTS[usize::from((address - 0xFF00) / 32)],
+        _ if is_ram(control, address) => if read { 0 } else { 7 },
+        ..0xA000 => 1,
+        0xA000..0xC000 => 2,
+        _ => 3,
     }
-    if is_ram(control, address) {
-        if read {
-            return 0;
-        }
-        return 7;
-    }
-    if address < 0xA000 {
-        return 1;
-    }
-    if address < 0xC000 {
-        return 2;
-    }
-    3
 }
 
 // The addresses that stay slow while R0 alone is set.
+#[tactic(auto, unfolding(crate::specs::Bus::is_slow_of))]
 fn is_slow(address: u16) -> bool
     ensures { result ≡ is_slow_of address }
 {
@@ -55,22 +71,19 @@ fn is_slow(address: u16) -> bool
 }
 
 // How long the cycle lasts, in ticks of the crystal.
+#[tactic(auto, using(basics::proofs::Cases::cases), unfolding(crate::specs::Bus::ticks_of))]
 fn ticks(control: Control, address: u16) -> u8
     ensures { result ≡ ticks_of control address }
 {
-    if control.r1() {
-        return 8;
+    if control.r1() || control.r0() && !is_slow(address) {
+        8
+    } else {
+        16
     }
-    if control.r0() {
-        if is_slow(address) {
-            return 16;
-        }
-        return 8;
-    }
-    16
 }
 
 // Whether the control bits are a pair that the chip bars.
+#[tactic(auto, unfolding(crate::specs::Bus::is_barred_of))]
 fn is_barred(control: Control) -> bool
     ensures { result ≡ is_barred_of control }
 {
@@ -78,34 +91,27 @@ fn is_barred(control: Control) -> bool
 }
 
 // The cell of a RAM cycle.
-fn ram_cell(control: Control, address: u16) -> MemoryCell
+#[tactic(auto, using(basics::proofs::Cases::cases), unfolding(crate::specs::Bus::ram_cell_of))]
+fn ram_cell(control: Control, address: u16) -> Option<MemoryCell>
     ensures { result ≡ ram_cell_of control address }
 {
     if is_ram(control, address) {
-        return cell_at(control, routed(control, address));
+        Some(cell_at(control, routed(control, address)))
+    } else {
+        None
     }
-    no_cell()
-}
-
-// RAM, barred pair and control write as one number.
-fn flags(control: Control, address: u16, read: bool) -> u8
-    ensures { result ≡ flags_of control address read }
-{
-    let ram = basics::number(is_ram(control, address));
-    let barred = basics::number(is_barred(control));
-    let write = basics::number(control::is_control_write(address, read));
-    ram + 2 * barred + 4 * write
 }
 
 // All that a cycle shows, judged with the given control bits.
+#[tactic(auto, unfolding(crate::specs::Bus::cycle_of))]
 pub(crate) fn judged(control: Control, address: u16, read: bool) -> Cycle
     ensures { result ≡ cycle_of control address read }
 {
-    let cell = ram_cell(control, address);
     Cycle {
         select: select(control, address, read),
         ticks: ticks(control, address),
-        flags: flags(control, address, read),
-        cell: cell,
+        cell: ram_cell(control, address),
+        barred: is_barred(control),
+        control_write: control::is_control_write(address, read),
     }
 }

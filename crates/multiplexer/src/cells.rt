@@ -14,19 +14,19 @@ pub struct MemoryCell {
 }
 
 // How many rows, and how many columns, one bank has.
+#[tactic(auto, using(basics::proofs::Cases::cases), unfolding(crate::specs::Cells::side_of))]
 fn side(control: Control) -> u16
     ensures { Side control result }
 {
-    if control.m1() {
-        return 256;
+    match (control.m1(), control.m0()) {
+        (true, _) => 256,
+        (false, true) => 128,
+        (false, false) => 64,
     }
-    if control.m0() {
-        return 128;
-    }
-    64
 }
 
 // The cell of a 16-bit address, for the memory size in force.
+#[tactic(auto, unfolding(crate::specs::Cells::cell_of))]
 pub(crate) fn cell_at(control: Control, address: u16) -> MemoryCell
     ensures { result ≡ cell_of (side_of control) address }
 {
@@ -50,12 +50,12 @@ pub(crate) fn no_cell() -> MemoryCell
 }
 
 // The processor's address as it goes to the memory: with TY clear, P stands for A15.
+#[tactic(auto, using(basics::proofs::Cases::cases), unfolding(crate::specs::Cells::routed_of))]
 pub(crate) fn routed(control: Control, address: u16) -> u16
     ensures { result ≡ routed_of control address }
 {
     if control.ty() {
         return address;
     }
-    let page = basics::number(control.p());
-    page as u16 * 0x8000 + address % 0x8000
+    u16::from(control.p()) * 0x8000 + address % 0x8000
 }

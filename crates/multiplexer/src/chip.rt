@@ -4,8 +4,8 @@ ghost use Rattle.multiplexer.specs.Chip.{fresh_of, bus_of, fetches_of, shown_of,
 
 use crate::bus::{Cycle, judged};
 use crate::cells::{MemoryCell, cell_at};
-use crate::edge::{edge_between, mode_in_force, moved};
-use crate::refresh::refreshed;
+use crate::edge::{Edge, edge_between, mode_in_force, moved};
+use crate::refresh::{Rows, refreshed};
 use control::Control;
 use display::Display;
 
@@ -25,22 +25,20 @@ pub struct Bused {
     pub cycle: Cycle,
 }
 
-// The display address by its two bytes, its cell, and whether the display has access to the memory.
+// The display address, its cell, and whether the display has access to the memory.
 #[derive(Clone, Copy)]
 pub struct Shown {
-    pub high: u8,
-    pub low: u8,
+    pub address: u16,
     pub cell: MemoryCell,
     pub access: bool,
 }
 
-// After the levels of HS and DA0: the edge that they made, and the rows refreshed at it, count of them from first on.
+// After the levels of HS and DA0: the edge that they made, if they made one, and the rows refreshed at it.
 #[derive(Clone, Copy)]
 pub struct Levelled {
     pub multiplexer: Multiplexer,
-    pub edge: u8,
-    pub first: u8,
-    pub count: u8,
+    pub edge: Option<Edge>,
+    pub rows: Rows,
 }
 
 impl Multiplexer {
@@ -48,11 +46,9 @@ impl Multiplexer {
     pub fn fresh() -> Multiplexer
         ensures { result ≡ fresh_of }
     {
-        let control = Control::clear();
-        let display = Display::start();
         Multiplexer {
-            control: control,
-            display: display,
+            control: Control::clear(),
+            display: Display::start(),
             refresh: 0,
             hs: true,
         }
@@ -66,47 +62,44 @@ impl Multiplexer {
     }
 
     // One bus cycle, judged with the control bits as they stood before its own write.
+    #[tactic(auto, unfolding(crate::specs::Chip::bus_of))]
     pub fn bus(self, address: u16, read: bool) -> Bused
         ensures { result ≡ bus_of self address read }
     {
         let before = self.control;
         let after = before.after(address, read);
         let cycle = judged(before, address, read);
-        let mut multiplexer = self;
-        multiplexer.control = after;
-        Bused {
-            multiplexer: multiplexer,
-            cycle: cycle,
-        }
+        let multiplexer = Multiplexer {
+            control: after,
+            ..self
+        };
+        Bused { multiplexer, cycle }
     }
 
     // n display fetches.
+    #[tactic(auto, unfolding(crate::specs::Chip::fetches_of))]
     pub fn fetches(self, n: u16) -> Multiplexer
         ensures { result ≡ fetches_of self n }
     {
-        let display = self.display;
-        let fetched = display.fetches(mode_in_force(self.control), n);
-        let mut multiplexer = self;
-        multiplexer.display = fetched;
-        multiplexer
+        let display = self.display.fetches(mode_in_force(self.control), n);
+        Multiplexer { display, ..self }
     }
 
     // What the display shows of itself: its address and cell are told even where it has no access.
+    #[tactic(auto, unfolding(crate::specs::Chip::shown_of))]
     pub fn shown(self) -> Shown
         ensures { result ≡ shown_of self }
     {
-        let control = self.control;
-        let b = self.display.b;
-        let cell = cell_at(control, b);
+        let address = self.display.b;
         Shown {
-            high: basics::high(b),
-            low: basics::low(b),
-            cell: cell,
-            access: !control.r1(),
+            address,
+            cell: cell_at(self.control, address),
+            access: !self.control.r1(),
         }
     }
 
     // The levels of HS and DA0.
+    #[tactic(auto, unfolding(crate::specs::Chip::levels_of))]
     pub fn levels(self, hs: bool, da0: bool) -> Levelled
         ensures { result ≡ levels_of self hs da0 }
     {
@@ -115,16 +108,15 @@ impl Multiplexer {
         let refresh = refreshed(control, edge, self.refresh);
         let display = moved(control, edge, self.display).with_b0(da0);
         let multiplexer = Multiplexer {
-            control: control,
-            display: display,
+            control,
+            display,
             refresh: refresh.counter,
-            hs: hs,
+            hs,
         };
         Levelled {
-            multiplexer: multiplexer,
-            edge: edge,
-            first: refresh.first,
-            count: refresh.count,
+            multiplexer,
+            edge,
+            rows: refresh.rows,
         }
     }
 }

@@ -10,3 +10,5 @@ mod refresh;
 pub use bus::Cycle;
 pub use cells::MemoryCell;
 pub use chip::{Bused, Levelled, Multiplexer, Shown};
+pub use edge::Edge;
+pub use refresh::Rows;

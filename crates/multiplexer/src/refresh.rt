@@ -2,14 +2,20 @@
 ghost use Rattle.std.specs.Prelude.{◌≡◌};
 ghost use Rattle.multiplexer.specs.Refresh.{eight_from, idle_at, refresh_of};
 
-use crate::edge::FALL;
+use crate::edge::Edge;
 use control::Control;
 
-// What an HS level refreshes: count rows from first on. And where the counter then stands.
+// A run of rows, count of them from first on. Where nothing is refreshed the run is empty and first is 0, as an answer tells it.
 #[derive(Clone, Copy)]
-pub struct Refresh {
+pub struct Rows {
     pub first: u8,
     pub count: u8,
+}
+
+// What an HS level refreshes, and where the counter then stands.
+#[derive(Clone, Copy)]
+pub struct Refresh {
+    pub rows: Rows,
     pub counter: u8,
 }
 
@@ -17,34 +23,29 @@ pub struct Refresh {
 fn eight_rows(counter: u8) -> Refresh
     ensures { result ≡ eight_from counter }
 {
-    let next = std::num::wrapping_add_u8(counter, 8) % 128;
-    Refresh {
+    let rows = Rows {
         first: counter,
         count: 8,
-        counter: next,
-    }
+    };
+    let counter = counter.wrapping_add(8) % 128;
+    Refresh { rows, counter }
 }
 
 // Nothing refreshed.
 fn idle(counter: u8) -> Refresh
     ensures { result ≡ idle_at counter }
 {
-    Refresh {
-        first: 0,
-        count: 0,
-        counter: counter,
-    }
+    let rows = Rows { first: 0, count: 0 };
+    Refresh { rows, counter }
 }
 
 // What an edge of HS refreshes.
-pub(crate) fn refreshed(control: Control, edge: u8, counter: u8) -> Refresh
+#[tactic(auto, using(basics::proofs::Cases::cases), unfolding(crate::specs::Refresh::refresh_of))]
+pub(crate) fn refreshed(control: Control, edge: Option<Edge>, counter: u8) -> Refresh
     ensures { result ≡ refresh_of control edge counter }
 {
-    if control.r1() {
-        return idle(counter);
+    match edge {
+        Some(Edge::Fall) if !control.r1() => eight_rows(counter),
+        _ => idle(counter),
     }
-    if edge == FALL {
-        return eight_rows(counter);
-    }
-    idle(counter)
 }

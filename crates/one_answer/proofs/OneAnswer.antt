@@ -2,6 +2,9 @@
 -- a caller sees of a call. `tools/check-contracts --write` writes this file from the signatures, and tools/check-contracts holds it to them.
 -- Assumes nothing.
 use Rattle.one_answer.specs.OneAnswer.{OneAnswer, ◌beside◌}
+use Rattle.std.specs.Prelude.{ℕ}
+use mir.Val.{Fits}
+use mir.Syntax.{w64}
 use Rattle.basics.proofs.Alike.{one_answer}
 use Rattle.one_answer.proofs.Alike.{◌and◌}
 use Rattle.basics.proofs.number.Reads as BasicsNumber
@@ -41,14 +44,11 @@ use Rattle.controller.proofs.pin.Reads as ControllerPin
 use Rattle.controller.proofs.chip.Controller.outputs.Reads as ControllerOutputs
 use Rattle.controller.proofs.chip.Controller.read.Reads as ControllerRead
 use Rattle.controller.proofs.kept.Reads as ControllerKept
-use Rattle.locator.proofs.answer.Located.refusal.Reads as LocatorRefusal
-use Rattle.locator.proofs.answer.Located.cell.Reads as LocatorCell
 use Rattle.locator.proofs.locate.Reads as LocatorLocate
 use Rattle.setting.proofs.is_clean.Reads as SettingIsClean
 use Rattle.setting.proofs.registers.Reads as SettingRegisters
 use Rattle.setting.proofs.start.Reads as SettingStart
 use Rattle.tally.proofs.count_frame.Reads as TallyCountFrame
-use Rattle.tally.proofs.greater.Reads as TallyGreater
 use Rattle.tally.proofs.tally.Tally.none.Reads as TallyNone
 use Rattle.report.proofs.report.Reads as ReportReport
 use Rattle.control.proofs.bits.Control.clear.Reads as ControlClear
@@ -69,14 +69,16 @@ use Rattle.display.proofs.counter.Display.fall.Reads as DisplayFall
 use Rattle.display.proofs.counter.Display.preload.Reads as DisplayPreload
 use Rattle.display.proofs.counter.Display.with_b0.Reads as DisplayWithB0
 use Rattle.display.proofs.modes.Mode.numbered.Reads as DisplayNumbered
+use Rattle.multiplexer.proofs.bus.Cycle.flags.Reads as MultiplexerFlags
+use Rattle.multiplexer.proofs.bus.Cycle.told_cell.Reads as MultiplexerToldCell
 use Rattle.multiplexer.proofs.chip.Multiplexer.fresh.Reads as MultiplexerFresh
 use Rattle.multiplexer.proofs.chip.Multiplexer.reset.Reads as MultiplexerReset
 use Rattle.multiplexer.proofs.chip.Multiplexer.bus.Reads as MultiplexerBus
 use Rattle.multiplexer.proofs.chip.Multiplexer.fetches.Reads as MultiplexerFetches
 use Rattle.multiplexer.proofs.chip.Multiplexer.shown.Reads as MultiplexerShown
 use Rattle.multiplexer.proofs.chip.Multiplexer.levels.Reads as MultiplexerLevels
+use Rattle.record.proofs.number.Reads as RecordNumber
 use Rattle.record.proofs.decode.Reads as RecordDecode
-use Rattle.record.proofs.kinds.Decoded.number.Reads as RecordNumber
 use Rattle.answer.proofs.Answer.done.Reads as AnswerDone
 use Rattle.answer.proofs.Answer.plain.Reads as AnswerPlain
 use Rattle.answer.proofs.Answer.bytes.Reads as AnswerBytes
@@ -88,14 +90,19 @@ use Rattle.alone.proofs.on_reset.Reads as AloneOnReset
 use Rattle.alone.proofs.write.Reads as AloneWrite
 use Rattle.alone.proofs.clock.Reads as AloneClock
 use Rattle.alone.proofs.strike.Reads as AloneStrike
-use Rattle.text.proofs.put_hex.Reads as TextPutHex
-use Rattle.text.proofs.put_lines.Reads as TextPutLines
+use Rattle.text.proofs.owned.Text.put_hex.Reads as TextPutHex
+use Rattle.text.proofs.owned.Text.put_lines.Reads as TextPutLines
+use Rattle.text.proofs.owned.Text.new.Reads as TextNew
+use Rattle.text.proofs.owned.Text.of.Reads as TextOf
+use Rattle.text.proofs.owned.Text.room_left.Reads as TextRoomLeft
+use Rattle.text.proofs.owned.Text.put.Reads as TextPut
 use Rattle.text.proofs.said.Reads as TextSaid
 use Rattle.decimal.proofs.put_decimal.Reads as DecimalPutDecimal
 use Rattle.bodies.proofs.bus_answer.Reads as BodiesBusAnswer
 use Rattle.bodies.proofs.shown_answer.Reads as BodiesShownAnswer
 use Rattle.bodies.proofs.levels_answer.Reads as BodiesLevelsAnswer
 use Rattle.bodies.proofs.located_answer.Reads as BodiesLocatedAnswer
+use Rattle.bench.proofs.step.Bench.fresh.Reads as BenchFresh
 use Rattle.bench.proofs.step.Bench.step.Reads as BenchStep
 use Rattle.replay.proofs.unread_rest.Reads as ReplayUnreadRest
 use Rattle.replay.proofs.replay.Reads as ReplayReplay
@@ -115,8 +122,6 @@ use Rattle.serial_text.proofs.tell.Reads as SerialTextTell
 use Rattle.cuts_text.proofs.refusal.Reads as CutsTextRefusal
 use Rattle.cuts_text.proofs.is_list.Reads as CutsTextIsList
 use Rattle.cuts_text.proofs.make.Reads as CutsTextMake
-use Rattle.setup_file.proofs.kind.Kind.number.Reads as SetupFileKindNumber
-use Rattle.setup_file.proofs.refusal.Refusal.number.Reads as SetupFileRefusalNumber
 use Rattle.setup_reader.proofs.part.Reads as SetupReaderPart
 use Rattle.setup_reader.proofs.open.Reads as SetupReaderOpen
 use Rattle.setup_writer.proofs.write.Reads as SetupWriterWrite
@@ -243,12 +248,6 @@ controller-read κs a x y s t p q = one_answer p q
 pub controller-kept : OneAnswer ControllerKept.Post (λ κs r s. r)
 controller-kept κs a x y s t p q = one_answer p q
 
-pub locator-refusal : OneAnswer LocatorRefusal.Post (λ κs r s. r)
-locator-refusal κs a x y s t p q = one_answer p q
-
-pub locator-cell : OneAnswer LocatorCell.Post (λ κs r s. r)
-locator-cell κs a x y s t p q = one_answer p q
-
 pub locator-locate : OneAnswer LocatorLocate.Post (λ κs r s. r)
 locator-locate κs a x y s t p q = one_answer p q
 
@@ -263,9 +262,6 @@ setting-start κs a x y s t p q = one_answer p.0 q.0 and one_answer p.1 q.1
 
 pub tally-count-frame : OneAnswer TallyCountFrame.Post (λ κs r s. r)
 tally-count-frame κs a x y s t p q = one_answer p.0 q.0
-
-pub tally-greater : OneAnswer TallyGreater.Post (λ κs r s. r)
-tally-greater κs a x y s t p q = one_answer p q
 
 pub tally-none : OneAnswer TallyNone.Post (λ κs r s. r)
 tally-none κs a x y s t p q = one_answer p q
@@ -327,6 +323,12 @@ display-with-b0 κs a x y s t p q = one_answer p q
 pub display-numbered : OneAnswer DisplayNumbered.Post (λ κs r s. r)
 display-numbered κs a x y s t p q = one_answer p q
 
+pub multiplexer-flags : OneAnswer MultiplexerFlags.Post (λ κs r s. r)
+multiplexer-flags κs a x y s t p q = one_answer p q
+
+pub multiplexer-told-cell : OneAnswer MultiplexerToldCell.Post (λ κs r s. r)
+multiplexer-told-cell κs a x y s t p q = one_answer p q
+
 pub multiplexer-fresh : OneAnswer MultiplexerFresh.Post (λ κs r s. r)
 multiplexer-fresh κs a x y s t p q = one_answer p q
 
@@ -345,11 +347,11 @@ multiplexer-shown κs a x y s t p q = one_answer p q
 pub multiplexer-levels : OneAnswer MultiplexerLevels.Post (λ κs r s. r)
 multiplexer-levels κs a x y s t p q = one_answer p q
 
-pub record-decode : OneAnswer RecordDecode.Post (λ κs r s. r)
-record-decode κs a x y s t p q = one_answer p q
-
 pub record-number : OneAnswer RecordNumber.Post (λ κs r s. r)
 record-number κs a x y s t p q = one_answer p q
+
+pub record-decode : OneAnswer RecordDecode.Post (λ κs r s. r)
+record-decode κs a x y s t p q = one_answer p q
 
 pub answer-done : OneAnswer AnswerDone.Post (λ κs r s. r)
 answer-done κs a x y s t p q = one_answer p q
@@ -384,17 +386,29 @@ alone-clock κs a x y s t p q = one_answer p q
 pub alone-strike : OneAnswer AloneStrike.Post (λ κs r s. r)
 alone-strike κs a x y s t p q = one_answer p q
 
-pub text-put-hex : OneAnswer TextPutHex.Post (λ κs r s. r beside s.0.now beside s.1.1.0.now)
-text-put-hex κs a x y s t p q = one_answer p.0 q.0 and one_answer p.1.0 q.1.0 and one_answer p.1.1.0 q.1.1.0
+pub text-put-hex : (N : ℕ) (fits-N : Fits w64 N) → OneAnswer (TextPutHex.Post N fits-N) (λ κs r s. s.0.now beside s.1.0.now)
+text-put-hex N fits-N κs a x y s t p q = one_answer p.0 q.0 and one_answer p.1 q.1
 
-pub text-put-lines : OneAnswer TextPutLines.Post (λ κs r s. r beside s.0.now beside s.1.1.0.now)
-text-put-lines κs a x y s t p q = one_answer p.0 q.0 and one_answer p.1.0 q.1.0 and one_answer p.1.1.0 q.1.1.0
+pub text-put-lines : (N : ℕ) (fits-N : Fits w64 N) → OneAnswer (TextPutLines.Post N fits-N) (λ κs r s. s.0.now beside s.1.0.now)
+text-put-lines N fits-N κs a x y s t p q = one_answer p.0 q.0 and one_answer p.1 q.1
 
-pub text-said : OneAnswer TextSaid.Post (λ κs r s. r beside s.1.0.now)
-text-said κs a x y s t p q = one_answer p.0 q.0 and one_answer p.1.1 q.1.1
+pub text-new : (N : ℕ) (fits-N : Fits w64 N) → OneAnswer (TextNew.Post N fits-N) (λ κs r s. r)
+text-new N fits-N κs a x y s t p q = one_answer p q
 
-pub decimal-put-decimal : OneAnswer DecimalPutDecimal.Post (λ κs r s. r beside s.0.now)
-decimal-put-decimal κs a x y s t p q = one_answer p.0 q.0 and one_answer p.1.0 q.1.0
+pub text-of : (N : ℕ) (fits-N : Fits w64 N) → OneAnswer (TextOf.Post N fits-N) (λ κs r s. r beside s.0.now)
+text-of N fits-N κs a x y s t p q = one_answer p.0 q.0 and one_answer p.1 q.1
+
+pub text-room-left : (N : ℕ) (fits-N : Fits w64 N) → OneAnswer (TextRoomLeft.Post N fits-N) (λ κs r s. r beside s.0.now)
+text-room-left N fits-N κs a x y s t p q = one_answer p.0 q.0 and one_answer p.1.1 q.1.1
+
+pub text-put : (N : ℕ) (fits-N : Fits w64 N) → OneAnswer (TextPut.Post N fits-N) (λ κs r s. s.0.now beside s.1.0.now)
+text-put N fits-N κs a x y s t p q = one_answer p.0 q.0 and one_answer p.1 q.1
+
+pub text-said : OneAnswer TextSaid.Post (λ κs r s. r.now beside r.ref_ptr beside s.1.0.now)
+text-said κs a x y s t p q = one_answer p.0 q.0 and one_answer p.1.0 q.1.0 and one_answer p.1.1 q.1.1
+
+pub decimal-put-decimal : (N : ℕ) (fits-N : Fits w64 N) → OneAnswer (DecimalPutDecimal.Post N fits-N) (λ κs r s. s.0.now)
+decimal-put-decimal N fits-N κs a x y s t p q = one_answer p q
 
 pub bodies-bus-answer : OneAnswer BodiesBusAnswer.Post (λ κs r s. r)
 bodies-bus-answer κs a x y s t p q = one_answer p q
@@ -408,6 +422,9 @@ bodies-levels-answer κs a x y s t p q = one_answer p q
 pub bodies-located-answer : OneAnswer BodiesLocatedAnswer.Post (λ κs r s. r)
 bodies-located-answer κs a x y s t p q = one_answer p q
 
+pub bench-fresh : OneAnswer BenchFresh.Post (λ κs r s. r)
+bench-fresh κs a x y s t p q = one_answer p q
+
 pub bench-step : OneAnswer BenchStep.Post (λ κs r s. r)
 bench-step κs a x y s t p q = one_answer p q
 
@@ -420,11 +437,11 @@ replay-replay κs a x y s t p q = one_answer p.0 q.0 and one_answer p.1.0 q.1.0 
 pub batch-replay-fresh : OneAnswer BatchReplayFresh.Post (λ κs r s. r beside s.1.0.now beside s.0.now)
 batch-replay-fresh κs a x y s t p q = one_answer p.0 q.0 and one_answer p.1.0 q.1.0 and one_answer p.1.1.0 q.1.1.0
 
-pub answer-lines-put-answers : OneAnswer AnswerLinesPutAnswers.Post (λ κs r s. r beside s.0.now beside s.1.1.0.now)
-answer-lines-put-answers κs a x y s t p q = one_answer p.0 q.0 and one_answer p.1.0 q.1.0 and one_answer p.1.1.0 q.1.1.0
+pub answer-lines-put-answers : (N : ℕ) (fits-N : Fits w64 N) → OneAnswer (AnswerLinesPutAnswers.Post N fits-N) (λ κs r s. s.0.now beside s.1.0.now)
+answer-lines-put-answers N fits-N κs a x y s t p q = one_answer p.0 q.0 and one_answer p.1 q.1
 
-pub lister-list : OneAnswer ListerList.Post (λ κs r s. r beside s.1.0.now beside s.0.now)
-lister-list κs a x y s t p q = one_answer p.1.0 q.1.0 and one_answer p.1.1.0 q.1.1.0 and one_answer p.1.1.1.1 q.1.1.1.1
+pub lister-list : OneAnswer ListerList.Post (λ κs r s. r beside s.0.now)
+lister-list κs a x y s t p q = one_answer p.1.0 q.1.0 and one_answer p.1.1 q.1.1
 
 pub rooms-text-room-of : OneAnswer RoomsTextRoomOf.Post (λ κs r s. r)
 rooms-text-room-of κs a x y s t p q = one_answer p.0 q.0
@@ -432,11 +449,11 @@ rooms-text-room-of κs a x y s t p q = one_answer p.0 q.0
 pub rooms-text-counts : OneAnswer RoomsTextCounts.Post (λ κs r s. r)
 rooms-text-counts κs a x y s t p q = one_answer p q
 
-pub rooms-text-room : OneAnswer RoomsTextRoom.Post (λ κs r s. r beside s.1.0.now beside s.0.now)
-rooms-text-room κs a x y s t p q = one_answer p.1.0 q.1.0 and one_answer p.1.1.0 q.1.1.0 and one_answer p.1.1.1.1 q.1.1.1.1
+pub rooms-text-room : OneAnswer RoomsTextRoom.Post (λ κs r s. r beside s.0.now)
+rooms-text-room κs a x y s t p q = one_answer p.1.0 q.1.0 and one_answer p.1.1 q.1.1
 
-pub report-text-tell : OneAnswer ReportTextTell.Post (λ κs r s. r beside s.1.0.now beside s.0.now)
-report-text-tell κs a x y s t p q = one_answer p.1.0 q.1.0 and one_answer p.1.1.0 q.1.1.0 and one_answer p.1.1.1.1 q.1.1.1.1
+pub report-text-tell : OneAnswer ReportTextTell.Post (λ κs r s. r beside s.0.now)
+report-text-tell κs a x y s t p q = one_answer p.1.0 q.1.0 and one_answer p.1.1 q.1.1
 
 pub line-fresh : OneAnswer LineFresh.Post (λ κs r s. r)
 line-fresh κs a x y s t p q = one_answer p q
@@ -447,14 +464,14 @@ line-accept κs a x y s t p q = one_answer p.0 q.0 and one_answer p.1.0 q.1.0 an
 pub line-close : OneAnswer LineClose.Post (λ κs r s. r)
 line-close κs a x y s t p q = one_answer p q
 
-pub serial-text-tell-end : OneAnswer SerialTextTellEnd.Post (λ κs r s. r beside s.1.0.now)
-serial-text-tell-end κs a x y s t p q = one_answer p.1.0 q.1.0 and one_answer p.1.1.0 q.1.1.0
+pub serial-text-tell-end : OneAnswer SerialTextTellEnd.Post (λ κs r s. r)
+serial-text-tell-end κs a x y s t p q = one_answer p.1 q.1
 
 pub serial-text-space : OneAnswer SerialTextSpace.Post (λ κs r s. r)
 serial-text-space κs a x y s t p q = one_answer p q
 
-pub serial-text-tell : OneAnswer SerialTextTell.Post (λ κs r s. r beside s.1.1.0.now beside s.1.0.now)
-serial-text-tell κs a x y s t p q = one_answer p.1.0 q.1.0 and one_answer p.1.1.0 q.1.1.0 and one_answer p.1.1.1.1 q.1.1.1.1
+pub serial-text-tell : OneAnswer SerialTextTell.Post (λ κs r s. r beside s.1.0.now)
+serial-text-tell κs a x y s t p q = one_answer p.1.0 q.1.0 and one_answer p.1.1 q.1.1
 
 pub cuts-text-refusal : OneAnswer CutsTextRefusal.Post (λ κs r s. r)
 cuts-text-refusal κs a x y s t p q = one_answer p q
@@ -462,14 +479,8 @@ cuts-text-refusal κs a x y s t p q = one_answer p q
 pub cuts-text-is-list : OneAnswer CutsTextIsList.Post (λ κs r s. r beside s.0.now)
 cuts-text-is-list κs a x y s t p q = one_answer p.0 q.0 and one_answer p.1 q.1
 
-pub cuts-text-make : OneAnswer CutsTextMake.Post (λ κs r s. r beside s.1.1.0.now beside s.1.0.now)
-cuts-text-make κs a x y s t p q = one_answer p.1.0 q.1.0 and one_answer p.1.1.0 q.1.1.0 and one_answer p.1.1.1.1.0 q.1.1.1.1.0
-
-pub setup-file-Kind-number : OneAnswer SetupFileKindNumber.Post (λ κs r s. r)
-setup-file-Kind-number κs a x y s t p q = one_answer p q
-
-pub setup-file-Refusal-number : OneAnswer SetupFileRefusalNumber.Post (λ κs r s. r)
-setup-file-Refusal-number κs a x y s t p q = one_answer p q
+pub cuts-text-make : OneAnswer CutsTextMake.Post (λ κs r s. r beside s.1.0.now)
+cuts-text-make κs a x y s t p q = one_answer p.1.0 q.1.0 and one_answer p.1.1.0 q.1.1.0
 
 pub setup-reader-part : OneAnswer SetupReaderPart.Post (λ κs r s. r.now beside r.ref_ptr beside s.0.now)
 setup-reader-part κs a x y s t p q = one_answer p.0 q.0 and one_answer p.1.0 q.1.0 and one_answer p.1.1 q.1.1
@@ -477,8 +488,8 @@ setup-reader-part κs a x y s t p q = one_answer p.0 q.0 and one_answer p.1.0 q.
 pub setup-reader-open : OneAnswer SetupReaderOpen.Post (λ κs r s. r beside s.0.now)
 setup-reader-open κs a x y s t p q = one_answer p.0 q.0 and one_answer p.1 q.1
 
-pub setup-writer-write : OneAnswer SetupWriterWrite.Post (λ κs r s. r beside s.0.now beside s.1.1.0.now beside s.1.1.1.1.0.now)
-setup-writer-write κs a x y s t p q = one_answer p.0 q.0 and one_answer p.1.0 q.1.0 and one_answer p.1.1.0 q.1.1.0 and one_answer p.1.1.1 q.1.1.1
+pub setup-writer-write : OneAnswer SetupWriterWrite.Post (λ κs r s. r beside s.0.now beside s.1.0.now)
+setup-writer-write κs a x y s t p q = one_answer p.0 q.0 and one_answer p.1.0 q.1.0 and one_answer p.1.1 q.1.1
 
 pub exports-controller-fresh : OneAnswer ExportsControllerFresh.Post (λ κs r s. r)
 exports-controller-fresh κs a x y s t p q = one_answer p q

@@ -4,14 +4,15 @@ ghost use Rattle.pen.specs.Pen.{no_pen, struck_of, emptied_of, holds_of, newest_
 
 // What a strike latched, and whether it fell in the picture.
 #[repr(C)]
-#[derive(Clone, Copy)]
+#[derive(Clone, Copy, Default)]
 pub struct Strike {
     pub latch: u16,
     pub inside: bool,
 }
 
+// Stays a strike with a flag beside it, and no Option: C reads this struct.
 #[repr(C)]
-#[derive(Clone, Copy)]
+#[derive(Clone, Copy, Default)]
 pub struct Pen {
     // all zero where there was none
     pub last: Strike,
@@ -23,41 +24,38 @@ pub struct Pen {
 
 impl Pen {
     // A pen that has not struck.
+    #[tactic(auto, unfolding(crate::specs::Pen::no_pen))]
     pub fn none() -> Pen
         ensures { result ≡ no_pen }
     {
-        let none = Strike {
-            latch: 0,
-            inside: false,
-        };
-        Pen {
-            last: none,
-            any: false,
-            full: false,
-        }
+        Pen::default()
     }
 
     // The pen after a strike.
+    #[tactic(auto, unfolding(crate::specs::Pen::struck_of))]
     pub fn struck(self, strike: Strike) -> Pen
         ensures { result ≡ struck_of self strike }
     {
-        let mut p = self;
-        p.last = strike;
-        p.any = true;
-        p.full = true;
-        p
+        Pen {
+            last: strike,
+            any: true,
+            full: true,
+        }
     }
 
     // The pen after its latch was read.
+    #[tactic(auto, unfolding(crate::specs::Pen::emptied_of))]
     pub fn emptied(self) -> Pen
         ensures { result ≡ emptied_of self }
     {
-        let mut p = self;
-        p.full = false;
-        p
+        Pen {
+            full: false,
+            ..self
+        }
     }
 
     // Whether it holds a strike.
+    #[tactic(auto, unfolding(crate::specs::Pen::holds_of))]
     pub fn holds(self) -> bool
         ensures { result ≡ holds_of self }
     {
@@ -65,6 +63,7 @@ impl Pen {
     }
 
     // The newest strike; all zero where it holds none.
+    #[tactic(auto, unfolding(crate::specs::Pen::newest_of))]
     pub fn newest(self) -> Strike
         ensures { result ≡ newest_of self }
     {
@@ -72,6 +71,7 @@ impl Pen {
     }
 
     // L.
+    #[tactic(auto, unfolding(crate::specs::Pen::unread_of))]
     pub fn unread(self) -> bool
         ensures { result ≡ unread_of self }
     {

@@ -52,7 +52,7 @@ use Rattle.setting.specs.Setting.{setting_of, started_of}
 use Rattle.setting.specs.Writes.{ByWrites}
 use Rattle.setting.proofs.Writes.{by-writes}
 use Rattle.tally.specs.Tally.{tally_of}
-use Rattle.report.specs.Report.{refusal_of, reported_of}
+use Rattle.report.specs.Report.{outcome_of, refusal_of, reported_of}
 use Rattle.picture_total.specs.Picture.{Counted, Reported}
 use Rattle.picture_total.proofs.Picture.{counted, reported}
 use Rattle.decimal.specs.Decimal.{Digits}
@@ -66,12 +66,14 @@ use Rattle.every_line.specs.Demand.{Demand3OffTheLine}
 use Rattle.every_line.proofs.Calls.{calls}
 use Rattle.every_line.proofs.Cuts.{together}
 use Rattle.every_line.proofs.Demand.{demand3-off-the-line}
-use Rattle.serial_text.specs.Turn.{turn_text_of, told_of}
+use Rattle.serial_text.specs.Turn.{told_of, TextTold}
+use Rattle.serial_text.proofs.Said.{text-told}
 use Rattle.serial_text.specs.Ending.{last_text_of}
 use Rattle.serial_listing.specs.Printed.{PrintsTheListing}
 use Rattle.serial_listing.proofs.Printed.{prints}
 use Rattle.cuts_text.specs.Asked.{is_list_of}
-use Rattle.cuts_text.specs.Made.{call_text_of, made_of}
+use Rattle.cuts_text.specs.Made.{made_of, TextMade}
+use Rattle.cuts_text.proofs.Shown.{text-made}
 use Rattle.call_lists.specs.Lists.{Shows}
 use Rattle.call_lists.proofs.Lists.{shows}
 use Rattle.settled.specs.Cases.{Settled}
@@ -104,6 +106,7 @@ use Rattle.setting.proofs.registers.Reads as of-setting-registers
 use Rattle.setting.proofs.start.Reads as of-setting-start
 use Rattle.tally.proofs.count_frame.Reads as of-tally-count_frame
 use Rattle.report.proofs.report.Reads as of-report-report
+use Rattle.exports.proofs.settings_report.Reads as of-exports-settings_report
 use Rattle.report_text.proofs.tell.Reads as of-report_text-tell
 use Rattle.line.proofs.calls.Line.fresh.Reads as of-line-fresh
 use Rattle.line.proofs.calls.Line.accept.Reads as of-line-accept
@@ -116,7 +119,7 @@ use Rattle.promises.specs.States.{States}
 
 -- ---- demand 1
 
-pub record-decoded : States of-record-decode.Post (λ κs a r s. r ≡ decode_of a.0 a.1.0 a.1.1.0 a.1.1.1.0)
+pub record-decoded : States of-record-decode.Post (λ κs a r s. r ≡ decode_of a.0.kind a.0.hi a.0.lo a.0.value)
 record-decoded κs a r s p = p
 
 pub record-refused : (kind hi lo value : ℕ) → RecordRefusals kind hi lo value
@@ -125,13 +128,13 @@ record-refused = record-refusals
 pub refused-unmoved : (b : Bench) (kind hi lo value : ℕ) → BenchRefusals b kind hi lo value
 refused-unmoved = bench-refusals
 
-pub replay-answer : States of-replay-replay.Post (λ κs a r s. r ≡ replay_of a.0.now a.1.0.now a.1.1.0 a.1.1.1.0)
+pub replay-answer : States of-replay-replay.Post (λ κs a r s. r ≡ replay_of a.0.now a.1.0.now a.1.1.0)
 replay-answer κs a r s p = p.0
 
 pub replay-ends : (batch : List ℕ) (room : ℕ) (b : Bench) → Sound batch room (run_of batch room b)
 replay-ends = sound
 
-pub replay-output : States of-replay-replay.Post (λ κs a r s. (s.1.0.now ≡ output_of a.0.now a.1.0.now a.1.1.0 a.1.1.1.0) × (s.0.now ≡ a.0.now))
+pub replay-output : States of-replay-replay.Post (λ κs a r s. (s.1.0.now ≡ output_of a.0.now a.1.0.now a.1.1.0) × (s.0.now ≡ a.0.now))
 replay-output κs a r s p = p.1
 
 pub replay-parts : (b : Bench) (room : ℕ) → Runs b room
@@ -143,18 +146,18 @@ rest-bytes κs a r s p = p.0
 pub rest-place : States of-replay-unread_rest.Post (λ κs a r s. r.ref_ptr ≡ rest_at a.0.ref_ptr a.0.now a.1.0)
 rest-place κs a r s p = p.1.0
 
-pub listing-text : States of-lister-list.Post (λ κs a r s. (r ≡ length (listing_of a.0.now)) × (s.1.0.now ≡ laid_at a.1.0.now 0 (listing_of a.0.now)))
-listing-text κs a r s p = (p.1.0, p.1.1.0)
+pub listing-text : States of-lister-list.Post (λ κs a r s. r ≡ listing_of a.0.now)
+listing-text κs a r s p = p.1.0
 
-pub room-text : States of-rooms_text-room.Post (λ κs a r s. (r ≡ length (room_text_of a.0.now)) × (s.1.0.now ≡ laid_at a.1.0.now 0 (room_text_of a.0.now)))
-room-text κs a r s p = (p.1.0, p.1.1.0)
+pub room-text : States of-rooms_text-room.Post (λ κs a r s. r ≡ room_text_of a.0.now)
+room-text κs a r s p = p.1.0
 
-pub text-said : States of-text-said.Post (λ κs a r s. r ≡ said_of a.0 a.1.0.now)
+pub text-said : States of-text-said.Post (λ κs a r s. r.now ≡ said_of a.0 a.1.0.now)
 text-said κs a r s p = p.0
 
 -- ---- demand 2
 
-pub record-stepped : States of-bench-step.Post (λ κs a r s. r ≡ step_of a.0 a.1.0 a.1.1.0 a.1.1.1.0 a.1.1.1.1.0)
+pub record-stepped : States of-bench-step.Post (λ κs a r s. r ≡ step_of a.0 a.1.0.kind a.1.0.hi a.1.0.lo a.1.0.value)
 record-stepped κs a r s p = p
 
 pub written-alone : States of-alone-write.Post (λ κs a r s. r ≡ write_record_of a.0 a.1.0 a.1.1.0 a.1.1.1.0)
@@ -251,8 +254,11 @@ frame-counted κs a r s p = p.0
 pub picture-counted : (given : List ℕ) → Counted given
 picture-counted = counted
 
-pub report-said : States of-report-report.Post (λ κs a r s. r ≡ refusal_of a.0.now a.1.0.now)
+pub report-said : States of-report-report.Post (λ κs a r s. r ≡ outcome_of a.0.now a.1.0.now)
 report-said κs a r s p = p.0
+
+pub report-numbered : States of-exports-settings_report.Post (λ κs a r s. r ≡ refusal_of a.0.now a.1.0.now)
+report-numbered κs a r s p = p.0
 
 pub report-laid : States of-report-report.Post (λ κs a r s. (s.1.0.now ≡ reported_of a.0.now a.1.0.now) × (s.0.now ≡ a.0.now))
 report-laid κs a r s p = p.1
@@ -263,8 +269,8 @@ report-pictures = reported
 pub decimal-digits : (n : ℕ) → Digits n
 decimal-digits = digits
 
-pub report-text : States of-report_text-tell.Post (λ κs a r s. (r ≡ length (report_text_of a.0.now)) × (s.1.0.now ≡ laid_at a.1.0.now 0 (report_text_of a.0.now)))
-report-text κs a r s p = (p.1.0, p.1.1.0)
+pub report-text : States of-report_text-tell.Post (λ κs a r s. r ≡ report_text_of a.0.now)
+report-text κs a r s p = p.1.0
 
 -- ---- which reads are driven
 
@@ -300,11 +306,11 @@ demand-three-off-the-line = demand3-off-the-line
 pub serial-told : States of-serial_text-tell.Post (λ κs a r s. r ≡ told_of a.0 a.1.0.now)
 serial-told κs a r s p = p.1.0
 
-pub serial-text : States of-serial_text-tell.Post (λ κs a r s. s.1.1.0.now ≡ laid_at a.1.1.0.now 0 (turn_text_of a.0 a.1.0.now))
-serial-text κs a r s p = p.1.1.0
+pub serial-text : (l : Line) (cut : List ℕ) → TextTold l cut
+serial-text = text-told
 
-pub serial-end : States of-serial_text-tell_end.Post (λ κs a r s. (r ≡ length (last_text_of a.0)) × (s.1.0.now ≡ laid_at a.1.0.now 0 (last_text_of a.0)))
-serial-end κs a r s p = (p.1.0, p.1.1.0)
+pub serial-end : States of-serial_text-tell_end.Post (λ κs a r s. r ≡ last_text_of a.0)
+serial-end κs a r s p = p.1
 
 pub serial-printed : PrintsTheListing
 serial-printed = prints
@@ -315,8 +321,8 @@ cuts-listed κs a r s p = p.0
 pub cuts-made : States of-cuts_text-make.Post (λ κs a r s. r ≡ made_of a.0 a.1.0.now)
 cuts-made κs a r s p = p.1.0
 
-pub cuts-text : States of-cuts_text-make.Post (λ κs a r s. s.1.1.0.now ≡ laid_at a.1.1.0.now 0 (call_text_of a.0 a.1.0.now))
-cuts-text κs a r s p = p.1.1.0
+pub cuts-text : (l : Line) (rest : List ℕ) → TextMade l rest
+cuts-text = text-made
 
 pub cuts-shown : (input : List ℕ) → Shows input
 cuts-shown = shows

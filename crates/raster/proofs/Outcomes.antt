@@ -1,5 +1,5 @@
 -- The end of a line by three outcomes, as the code takes it, in place of the definition's six. Assumes nothing.
-use Rattle.std.proofs.Common.{◌≡◌, Bool, true, false, not, ◌&&◌, eqb, refl, ◌∙◌, eq-eqb, ne_eqb}
+use Rattle.std.proofs.Common.{◌≡◌, Bool, true, false, not, ◌&&◌, eqb, refl, sym, eq-eqb, ne_eqb}
 use Rattle.basics.specs.Choice.{when◌then◌else◌}
 use Rattle.raster.specs.Registers.{reg}
 use Rattle.raster.specs.Scan.{Move, along, new_frame_of, row_of, down_of, along_of, moved_of, line_end_of, move_of, next_of}
@@ -23,12 +23,12 @@ module _ (r : Registers) (s : Scan) where
   outcome (adjust-down a l) = rw (a, ne_eqb _ _ l)
   outcome (adjust-frame a l) = rw (a, eq-eqb _ _ l)
 
-  pub by-outcome : (z : Scan) → z ≡ by_outcome → z ≡ moved_of r s (line_end_of r s)
-  by-outcome z e = e ∙ outcome (line-end r s)
+  pub end_by_outcome : moved_of r s (line_end_of r s) ≡ by_outcome
+  end_by_outcome = sym (outcome (line-end r s))
 
-  pub by_move : (z : Scan) → z ≡ (when eqb s.column (reg r 0) then moved_of r s (line_end_of r s) else along_of s) → z ≡ next_of r s
+  pub next_by_move : next_of r s ≡ (when eqb s.column (reg r 0) then moved_of r s (line_end_of r s) else along_of s)
   unfolding when◌then◌else◌ next_of move_of moved_of
-  by_move z e = e ∙ of (eqb s.column (reg r 0)) where
-    of : (t : Bool) → (when t then moved_of r s (line_end_of r s) else along_of s) ≡ moved_of r s (when t then line_end_of r s else along)
+  next_by_move = of (eqb s.column (reg r 0)) where
+    of : (t : Bool) → moved_of r s (when t then line_end_of r s else along) ≡ (when t then moved_of r s (line_end_of r s) else along_of s)
     of true = refl
     of false = refl

@@ -6,7 +6,6 @@ ghost use Rattle.raster.specs.private.Outcomes.{ends_frame_of};
 
 use crate::registers::Registers;
 use basics::Width;
-use std::num::wrapping_add_u8;
 
 #[repr(C)]
 #[derive(Clone, Copy)]
@@ -31,39 +30,37 @@ impl Scan {
             line: 0,
             row: 0,
             base: start,
-            start: start,
-            field: field,
+            start,
+            field,
             adjusting: false,
         }
     }
 
-    fn along(self) -> Scan
+    // This move and the next two stay changes of a field at a time: built anew with `..self`, a scan makes the clock's loop an eighth slower.
+    fn along(mut self) -> Scan
         ensures { result ≡ along_of self }
     {
-        let mut s = self;
-        s.column = wrapping_add_u8(self.column, 1);
-        s
+        self.column = self.column.wrapping_add(1);
+        self
     }
 
-    fn down(self) -> Scan
+    fn down(mut self) -> Scan
         ensures { result ≡ down_of self }
     {
-        let mut s = self;
-        s.column = 0;
-        s.line = five_on(self.line);
-        s
+        self.column = 0;
+        self.line = five_on(self.line);
+        self
     }
 
-    fn next_row(self, r: Registers, adjusting: bool) -> Scan
+    fn next_row(mut self, r: Registers, adjusting: bool) -> Scan
         ensures { result ≡ row_of r self adjusting }
     {
-        let mut s = self;
-        s.column = 0;
-        s.line = 0;
-        s.row = seven_on(self.row);
-        s.base = Width::Fourteen.counted(self.base, r.held[1] as u16);
-        s.adjusting = adjusting;
-        s
+        self.column = 0;
+        self.line = 0;
+        self.row = seven_on(self.row);
+        self.base = Width::Fourteen.counted(self.base, r.held[1] as u16);
+        self.adjusting = adjusting;
+        self
     }
 
     fn next_frame(self, r: Registers) -> Scan
@@ -73,42 +70,48 @@ impl Scan {
     }
 
     // Whether the line's end is the frame's: among the adjust lines by their count, elsewhere as told.
+    #[tactic(auto, using(basics::proofs::Cases::cases), unfolding(crate::specs::private::Outcomes::ends_frame_of))]
     fn ends_frame(self, r: Registers, told: bool) -> bool
         ensures { result ≡ ends_frame_of r self told }
     {
         if self.adjusting {
-            return five_on(self.line) == r.held[5];
+            five_on(self.line) == r.held[5]
+        } else {
+            told
         }
-        told
     }
 
     // Three outcomes and not six, so that the compiler keeps the loop over character times in machine registers.
+    #[tactic(auto, using(basics::proofs::Cases::cases, crate::proofs::Outcomes::end_by_outcome))]
     fn line_end(self, r: Registers) -> Scan
         ensures { result ≡ moved_of r self (line_end_of r self) }
     {
         let bottom = self.line == r.held[9];
         let last = self.row == r.held[4];
         if self.ends_frame(r, bottom & last & (r.held[5] == 0)) {
-            return self.next_frame(r);
+            self.next_frame(r)
+        } else if !self.adjusting & bottom {
+            self.next_row(r, last)
+        } else {
+            self.down()
         }
-        if !self.adjusting & bottom {
-            return self.next_row(r, last);
-        }
-        self.down()
     }
 
     // One character time.
+    #[tactic(auto, using(basics::proofs::Cases::cases, crate::proofs::Outcomes::next_by_move))]
     pub fn next(self, r: Registers) -> Scan
         ensures { result ≡ next_of r self }
     {
         if self.column == r.held[0] {
-            return self.line_end(r);
+            self.line_end(r)
+        } else {
+            self.along()
         }
-        self.along()
     }
 }
 
-// One more, in a counter of five bits.
+// One more, in a counter of five bits. Stays beside seven_on: a counter of seven or eight bits wraps by the byte's own addition, and a
+// narrower one by its width (docs/RULES.md, "Where each language form belongs").
 fn five_on(x: u8) -> u8
     ensures { result ≡ counted_of Width.Five x 1 }
 {
@@ -119,5 +122,5 @@ fn five_on(x: u8) -> u8
 fn seven_on(x: u8) -> u8
     ensures { result ≡ counted_of Width.Seven x 1 }
 {
-    wrapping_add_u8(x, 1) % 128
+    x.wrapping_add(1) % 128
 }

@@ -1,5 +1,5 @@
 // The sync counts.
-ghost use Rattle.std.specs.Prelude.{◌≡◌, ◌-◌};
+ghost use Rattle.std.specs.Prelude.{◌≡◌};
 ghost use Rattle.raster.specs.Sync.{hsync_of, vsync_starts_of, vsync_width_of, vsync_of, arrive_of};
 
 use crate::registers::Registers;
@@ -12,19 +12,14 @@ pub struct Sync {
     pub vsync: u8,
 }
 
-// One less, down to 0.
-fn fallen(count: u8) -> u8
-    ensures { result ≡ count - 1 }
-{
-    if count == 0 { 0 } else { count - 1 }
-}
-
+#[tactic(auto, unfolding(crate::specs::Sync::vsync_starts_of))]
 fn vsync_starts(r: Registers, s: Scan) -> bool
     ensures { result ≡ vsync_starts_of r s }
 {
     !s.adjusting & (s.line == 0) & (s.row == r.held[7])
 }
 
+#[tactic(auto, using(basics::proofs::Cases::cases), unfolding(crate::specs::Sync::vsync_width_of))]
 fn vsync_width(r: Registers) -> u8
     ensures { result ≡ vsync_width_of r }
 {
@@ -33,28 +28,32 @@ fn vsync_width(r: Registers) -> u8
 }
 
 impl Sync {
+    #[tactic(auto, using(basics::proofs::Cases::cases), unfolding(crate::specs::Sync::hsync_of))]
     fn horizontal(self, r: Registers, s: Scan) -> u8
         ensures { result ≡ hsync_of r s self.hsync }
     {
         if s.column == r.held[2] {
-            return r.held[3] % 16;
+            r.held[3] % 16
+        } else {
+            self.hsync.saturating_sub(1)
         }
-        fallen(self.hsync)
     }
 
+    #[tactic(auto, using(basics::proofs::Cases::cases), unfolding(crate::specs::Sync::vsync_of))]
     fn vertical(self, r: Registers, s: Scan) -> u8
         ensures { result ≡ vsync_of r s self.vsync }
     {
-        if s.column == 0 {
-            if vsync_starts(r, s) {
-                return vsync_width(r);
-            }
-            return fallen(self.vsync);
+        if s.column != 0 {
+            self.vsync
+        } else if vsync_starts(r, s) {
+            vsync_width(r)
+        } else {
+            self.vsync.saturating_sub(1)
         }
-        self.vsync
     }
 
     // Both counts on arrival at a character.
+    #[tactic(auto, unfolding(crate::specs::Sync::arrive_of))]
     pub fn arrive(self, r: Registers, s: Scan) -> Sync
         ensures { result ≡ arrive_of r s self }
     {

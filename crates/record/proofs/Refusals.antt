@@ -5,6 +5,7 @@ use mathlib.Core.Bool.{Bool, true, false, true≢false, false≢true}
 use mathlib.Core.List.{List, [], ◌∷◌}
 use mathlib.Core.Logic.{◌↔◌, ◌⊎◌, inl, inr, ⊎_elim}
 use native.Mathlib.Omega.{arith}
+use Rattle.std.specs.Prelude.{Result, Err}
 use lib.Dec.{eqb}
 use lib.ListN.{length}
 use borrow.Author.Tests.{eqb-true, eqb-false}
@@ -13,13 +14,12 @@ use Rattle.basics.proofs.Tests.{lt-or-ge}
 use Rattle.record.specs.Decode.{Line, table_of, looked_up, allowed_of, checked_of, decode_of, number_of}
 use Rattle.record.specs.Refusals.{UnknownKind, KnownKind, Refusals}
 use Rattle.record.specs.declared.event.Event.{Event}
-use Rattle.record.specs.declared.kinds.Decoded.{Decoded}
+use Rattle.record.specs.declared.kinds.Refusal.{Refusal}
 use Rattle.record.specs.declared.kinds.Refusal.TheVariants.{Kind}
-use Rattle.record.specs.declared.kinds.Decoded.TheVariants.{Refused}
 
 -- what the lines from kind k on make of a kind, and whether they allow its fields
-abbrev decoded_by : ℕ → List Line → ℕ → Decoded
-decoded_by k lines kind = looked_up (λ l. checked_of l.fields l.event) (Refused Kind) k lines kind
+abbrev decoded_by : ℕ → List Line → ℕ → Result Event Refusal
+decoded_by k lines kind = looked_up (λ l. checked_of l.fields l.event) (Err Kind) k lines kind
 
 abbrev allowed_by : ℕ → List Line → ℕ → Bool
 allowed_by k lines kind = looked_up (λ l. l.fields) false k lines kind
@@ -27,7 +27,7 @@ allowed_by k lines kind = looked_up (λ l. l.fields) false k lines kind
 -- one of those lines speaks for the kind, or none does
 data Spoken (k : ℕ) (lines : List Line) (kind : ℕ) : Type 0 where
   known : k ≤ kind → kind < k + length lines → (e : Event) → decoded_by k lines kind ≡ checked_of (allowed_by k lines kind) e → Spoken k lines kind
-  none : (kind < k) ⊎ (k + length lines ≤ kind) → decoded_by k lines kind ≡ Refused Kind → allowed_by k lines kind ≡ false → Spoken k lines kind
+  none : (kind < k) ⊎ (k + length lines ≤ kind) → decoded_by k lines kind ≡ Err Kind → allowed_by k lines kind ≡ false → Spoken k lines kind
 
 module _ (k : ℕ) (l : Line) (lines : List Line) (kind : ℕ) where
   here : eqb kind k ≡ true → Spoken k (l ∷ lines) kind

@@ -1,12 +1,11 @@
 -- What four bytes mean: the table of kinds of document 01, "Records and what comes back", a line for each kind.
-use Rattle.std.specs.Prelude.{ℕ, suc, Bool, false, ◌&&◌, List, [], ◌∷◌, eqb, leb}
+use Rattle.std.specs.Prelude.{ℕ, suc, Bool, false, ◌&&◌, List, [], ◌∷◌, eqb, leb, Result, Ok, Err}
 use Rattle.basics.specs.Bits.{word_of}
 use Rattle.basics.specs.Choice.{when◌then◌else◌}
 use Rattle.record.specs.declared.event.Event.{Event}
 use Rattle.record.specs.declared.event.Event.TheVariants.{Write, Read, Clocks, Strike, Reset, Cycle, Fetches, Levels, Locate}
+use Rattle.record.specs.declared.kinds.Refusal.{Refusal}
 use Rattle.record.specs.declared.kinds.Refusal.TheVariants.{Kind, Field}
-use Rattle.record.specs.declared.kinds.Decoded.{Decoded}
-use Rattle.record.specs.declared.kinds.Decoded.TheVariants.{Known, Refused}
 
 -- what the table says of one kind: whether it allows the record's fields, and the event that it names
 pub record Line : Type 0 where
@@ -41,15 +40,15 @@ unfoldable pub allowed_of : ℕ → ℕ → ℕ → ℕ → Bool
 allowed_of kind hi lo value = looked_up (λ l. l.fields) false 1 (table_of hi lo value) kind
 
 -- an event, if its fields are allowed
-unfoldable pub checked_of : Bool → Event → Decoded
-checked_of fields event = when fields then Known event else Refused Field
+unfoldable pub checked_of : Bool → Event → Result Event Refusal
+checked_of fields event = when fields then Ok event else Err Field
 
 -- a record: its kind is looked at first, then its fields
-unfoldable pub decode_of : ℕ → ℕ → ℕ → ℕ → Decoded
-decode_of kind hi lo value = looked_up (λ l. checked_of l.fields l.event) (Refused Kind) 1 (table_of hi lo value) kind
+unfoldable pub decode_of : ℕ → ℕ → ℕ → ℕ → Result Event Refusal
+decode_of kind hi lo value = looked_up (λ l. checked_of l.fields l.event) (Err Kind) 1 (table_of hi lo value) kind
 
 -- the number that the table of refusals gives to each case: 0 where the record is known, 1 for its kind, 2 for a field
-abbrev pub number_of : Decoded → ℕ
-number_of (Known event) = 0
-number_of (Refused Kind) = 1
-number_of (Refused Field) = 2
+abbrev pub number_of : Result Event Refusal → ℕ
+number_of (Ok event) = 0
+number_of (Err Kind) = 1
+number_of (Err Field) = 2

@@ -1,2 +1,3 @@
 pub mod Decode
 pub mod Refusals
+pub mod Sent

@@ -1,37 +1,53 @@
 // The table of kinds. A new kind is a new last line of `decode`.
-ghost use Rattle.std.specs.Prelude.{◌≡◌};
+ghost use Rattle.std.specs.Prelude.{◌≡◌, Err};
 ghost use Rattle.record.specs.Decode.{checked_of, decode_of, number_of};
 
 use crate::event::Event;
-use basics::word;
+use crate::sent::Record;
 
 // Why a record is no event: its kind is none, or one of its fields is not allowed.
-#[derive(Clone, Copy)]
+#[derive(Clone, Copy, PartialEq, Eq)]
 pub enum Refusal {
     Kind,
     Field,
 }
 
-#[derive(Clone, Copy)]
-pub enum Decoded {
-    Known(Event),
-    Refused(Refusal),
+// The number that a refused record is answered with.
+impl From<Refusal> for u8 {
+    ghost from_gives = { λ refusal number. number ≡ number_of (Err refusal) };
+
+    fn from(refusal: Refusal) -> u8 {
+        match refusal {
+            Refusal::Kind => 1,
+            Refusal::Field => 2,
+        }
+    }
+}
+
+// The refusal number of a decoded record; 0 where it is an event.
+pub fn number(decoded: Result<Event, Refusal>) -> u8
+    ensures { result ≡ number_of decoded }
+{
+    decoded.err().map_or(0, u8::from)
 }
 
 // An event whose fields have been looked at.
-fn checked(fields: bool, event: Event) -> Decoded
+fn checked(fields: bool, event: Event) -> Result<Event, Refusal>
     ensures { result ≡ checked_of fields event }
 {
-    if fields {
-        return Decoded::Known(event);
-    }
-    Decoded::Refused(Refusal::Field)
+    fields.then_some(event).ok_or(Refusal::Field)
 }
 
-pub fn decode(kind: u8, hi: u8, lo: u8, value: u8) -> Decoded
-    ensures { result ≡ decode_of kind hi lo value }
+pub fn decode(sent: Record) -> Result<Event, Refusal>
+    ensures { result ≡ decode_of sent.kind sent.hi sent.lo sent.value }
 {
-    let n = word(hi, lo);
+    let Record {
+        kind,
+        hi,
+        lo,
+        value,
+    } = sent;
+    let n = u16::from_be_bytes([hi, lo]);
     let address = n;
     let up = lo == 1;
     let set = value == 1;
@@ -49,21 +65,6 @@ pub fn decode(kind: u8, hi: u8, lo: u8, value: u8) -> Decoded
         7 => checked(value == 0, Event::Fetches { n }),
         8 => checked(level & (value <= 1), Event::Levels { hs: up, da0: set }),
         9 => checked(empty, Event::Locate),
-        _ => Decoded::Refused(Refusal::Kind),
-    }
-}
-
-impl Decoded {
-    // The refusal number of a decoded record; 0 where it is known.
-    pub fn number(self) -> u8
-        ensures { result ≡ number_of self }
-    {
-        match self {
-            Decoded::Known(_) => 0,
-            Decoded::Refused(refusal) => match refusal {
-                Refusal::Kind => 1,
-                Refusal::Field => 2,
-            },
-        }
+        _ => Err(Refusal::Kind),
     }
 }

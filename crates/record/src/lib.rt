@@ -3,6 +3,8 @@
 
 mod event;
 mod kinds;
+mod sent;
 
 pub use event::Event;
-pub use kinds::{Decoded, Refusal, decode};
+pub use kinds::{Refusal, decode, number};
+pub use sent::Record;

@@ -7,7 +7,7 @@ use mathlib.Core.Logic.{◌⊎◌, inl, inr, ⊎_elim}
 use mathlib.Core.Path.{◌≡◌, refl, ap, sym}
 use native.Mathlib.Omega.{arith}
 use native.Mathlib.Nat.{mod-lt}
-use lib.Dec.{eqb, lit<}
+use lib.Dec.{lit<}
 use Rattle.basics.specs.Bits.{num}
 use Rattle.basics.specs.Choice.{when◌then◌else◌}
 use Rattle.basics.proofs.Cases.{if-both}
@@ -15,8 +15,10 @@ use Rattle.basics.proofs.Tests.{lt-or-ge}
 use Rattle.control.specs.Names.{r1_of}
 use Rattle.control.specs.declared.bits.Control.{Control}
 use Rattle.multiplexer.specs.Chip.{bus_of, fetches_of, levels_of}
-use Rattle.multiplexer.specs.Edge.{fall, edge_of}
+use Rattle.multiplexer.specs.Edge.{is_fall, edge_of}
 use Rattle.multiplexer.specs.Refresh.{eight_from, idle_at, refresh_of}
+use Rattle.std.specs.Prelude.{Option}
+use Rattle.multiplexer.specs.declared.edge.Edge.{Edge}
 use Rattle.multiplexer.specs.declared.chip.Multiplexer.{Multiplexer}
 use Rattle.multiplexer.specs.declared.refresh.Refresh.{Refresh}
 use Rattle.refresh_and_pictures.specs.Refresh.{Event, bus, fetches, levels, after, rows_from, refreshes, falls, visited, all_falls, R1Clear, SixteenFallsVisitAllRows, after_all, CounterKeepsItsWidth}
@@ -32,15 +34,15 @@ record Falls (e : Event) (m : Multiplexer) : Type 0 where
   moved : (after e m).refresh ≡ (m.refresh + 8) % 128
   eight : refreshes e m ≡ rows_from m.refresh 8
 
-refresh-at : (c : Control) (edge counter : ℕ) (t : Bool) → r1_of c ≡ false → eqb edge fall ≡ t → refresh_of c edge counter ≡ (when t then eight_from counter else idle_at counter)
+refresh-at : (c : Control) (edge : Option Edge) (counter : ℕ) (t : Bool) → r1_of c ≡ false → is_fall edge ≡ t → refresh_of c edge counter ≡ (when t then eight_from counter else idle_at counter)
 unfolding refresh_of when◌then◌else◌
 refresh-at c edge counter t r e = rw (r, e)
 
-level : (hs da0 t : Bool) (m : Multiplexer) → r1_of m.control ≡ false → eqb (edge_of m.hs hs da0) fall ≡ t → Rests (levels hs da0) m ⊎ Falls (levels hs da0) m
+level : (hs da0 t : Bool) (m : Multiplexer) → r1_of m.control ≡ false → is_fall (edge_of m.hs hs da0) ≡ t → Rests (levels hs da0) m ⊎ Falls (levels hs da0) m
 unfolding falls after refreshes levels_of when◌then◌else◌
 level hs da0 true m r e =
     let q : refresh_of m.control (edge_of m.hs hs da0) m.refresh ≡ eight_from m.refresh = refresh-at _ _ _ true r e in
-    inr (record { one = ap num e; moved = ap (λ (f : Refresh). f.counter) q; eight = ap (λ (f : Refresh). rows_from f.first f.count) q })
+    inr (record { one = ap num e; moved = ap (λ (f : Refresh). f.counter) q; eight = ap (λ (f : Refresh). rows_from f.rows.first f.rows.count) q })
 level hs da0 false m r e =
     let q : refresh_of m.control (edge_of m.hs hs da0) m.refresh ≡ idle_at m.refresh = refresh-at _ _ _ false r e in
     inl (record { none = ap num e; kept = ap (λ (f : Refresh). f.counter) q })
@@ -91,7 +93,7 @@ all-rows es m c h row l =
 
 -- ---- the counter's width
 
-counter-lt : (c : Control) (edge counter : ℕ) → counter < 128 → (refresh_of c edge counter).counter < 128
+counter-lt : (c : Control) (edge : Option Edge) (counter : ℕ) → counter < 128 → (refresh_of c edge counter).counter < 128
 unfolding refresh_of
 counter-lt c edge counter h =
     let P : Refresh → Type 0 = λ (f : Refresh). f.counter < 128 in

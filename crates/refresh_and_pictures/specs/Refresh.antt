@@ -1,12 +1,12 @@
 -- Refresh reaches every row of the memory (document 01, "The multiplexer", its last sentence): what a run of records is, and which rows
 -- it refreshes by its own answers.
 use Prim.{Unit}
-use Rattle.std.specs.Prelude.{ℕ, zero, suc, ◌+◌, ◌%◌, ◌<◌, ◌≤◌, Bool, false, ◌≡◌, eqb}
+use Rattle.std.specs.Prelude.{ℕ, zero, suc, ◌+◌, ◌%◌, ◌<◌, ◌≤◌, Bool, false, ◌≡◌}
 use mathlib.Core.List.{List, [], ◌∷◌, ◌++◌, Memᴰ}
 use Rattle.basics.specs.Bits.{num}
 use Rattle.control.specs.Names.{r1_of}
 use Rattle.multiplexer.specs.Chip.{bus_of, fetches_of, levels_of}
-use Rattle.multiplexer.specs.Edge.{fall}
+use Rattle.multiplexer.specs.Edge.{is_fall}
 use Rattle.multiplexer.specs.declared.chip.Multiplexer.{Multiplexer}
 
 -- the multiplexer's records, all but its reset
@@ -30,13 +30,13 @@ rows_from first (suc count) = first % 128 ∷ rows_from (suc first) count
 unfoldable pub refreshes : Event → Multiplexer → List ℕ
 refreshes (bus a read) m = []
 refreshes (fetches n) m = []
-refreshes (levels hs da0) m = rows_from (levels_of m hs da0).first (levels_of m hs da0).count
+refreshes (levels hs da0) m = rows_from (levels_of m hs da0).rows.first (levels_of m hs da0).rows.count
 
 -- 1 where a record's answer tells a fall of HS, else 0
 unfoldable pub falls : Event → Multiplexer → ℕ
 falls (bus a read) m = 0
 falls (fetches n) m = 0
-falls (levels hs da0) m = num (eqb (levels_of m hs da0).edge fall)
+falls (levels hs da0) m = num (is_fall (levels_of m hs da0).edge)
 
 -- over a run of records: all rows refreshed
 unfoldable pub visited : List Event → Multiplexer → List ℕ

@@ -12,17 +12,16 @@ use Rattle.basics.specs.Lay.{laid_at}
 use Rattle.answer.specs.declared.Answer.{Answer}
 use Rattle.bench.specs.Step.{step_of}
 use Rattle.bench.specs.declared.step.Bench.{Bench}
-use Rattle.controller.specs.declared.chip.Controller.{Controller}
-use Rattle.multiplexer.specs.declared.chip.Multiplexer.{Multiplexer}
+use Rattle.replay.specs.declared.ending.Ending.TheVariants.{Empty, CutShort, NoRoom}
 use Rattle.replay.specs.Run.{Run, stop, onto, after, run_of, ran_of, written_of, returned_of, replay_of, output_of}
 
 -- what a replay returns and writes are those of its run
-module _ (batch out : List ℕ) (c : Controller) (m : Multiplexer) where
-  pub replay-run : replay_of batch out c m ≡ returned_of (ran_of batch out c m)
+module _ (batch out : List ℕ) (b : Bench) where
+  pub replay-run : replay_of batch out b ≡ returned_of (ran_of batch out b)
   unfolding replay_of
   replay-run = refl
 
-  pub output-run : output_of batch out c m ≡ laid_at out 0 (written_of (ran_of batch out c m).answers)
+  pub output-run : output_of batch out b ≡ laid_at out 0 (written_of (ran_of batch out b).answers)
   unfolding output_of
   output-run = refl
 
@@ -34,11 +33,11 @@ pub onto-onto : (t u : ℕ) (l m : List Answer) (r : Run) → onto t l (onto u m
 onto-onto t u l m r = simp (add_assoc, append_assoc)
 
 -- an empty batch, and one of one to three bytes
-pub run_none : (room : ℕ) (b : Bench) → run_of [] room b ≡ stop b 0
+pub run_none : (room : ℕ) (b : Bench) → run_of [] room b ≡ stop b Empty
 unfolding run_of
 run_none room b = refl
 
-pub run_short : (x : List ℕ) (room : ℕ) (b : Bench) → 0 < length x → length x < 4 → run_of x room b ≡ stop b 3
+pub run_short : (x : List ℕ) (room : ℕ) (b : Bench) → 0 < length x → length x < 4 → run_of x room b ≡ stop b CutShort
 unfolding run_of
 run_short [] room b h g = absurd (omega arith)
 run_short (x ∷ []) room b h g = refl
@@ -48,7 +47,7 @@ run_short (w ∷ x ∷ y ∷ z ∷ r) room b h g = absurd (omega arith)
 
 -- a record that has no room, and one that has
 module _ (kind hi lo value : ℕ) (rest : List ℕ) (room : ℕ) (b : Bench) where
-  pub run-full : room < 8 → run_of (kind ∷ hi ∷ lo ∷ value ∷ rest) room b ≡ stop b 4
+  pub run-full : room < 8 → run_of (kind ∷ hi ∷ lo ∷ value ∷ rest) room b ≡ stop b NoRoom
   unfolding run_of when◌then◌else◌
   run-full h = rw (lt-ltb room 8 h)
 

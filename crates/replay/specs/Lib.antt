@@ -1,3 +1,3 @@
+pub mod Ending
 pub mod Run
 pub mod Rest
-pub mod private

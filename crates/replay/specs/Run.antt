@@ -7,19 +7,19 @@ use Rattle.answer.specs.declared.Answer.{Answer}
 use Rattle.bench.specs.Step.{step_of}
 use Rattle.bench.specs.declared.step.Bench.{Bench}
 use Rattle.bench.specs.declared.step.Stepped.{Stepped}
-use Rattle.controller.specs.declared.chip.Controller.{Controller}
-use Rattle.multiplexer.specs.declared.chip.Multiplexer.{Multiplexer}
+use Rattle.replay.specs.declared.ending.Ending.{Ending}
+use Rattle.replay.specs.declared.ending.Ending.TheVariants.{Empty, CutShort, NoRoom}
 use Rattle.replay.specs.declared.run.Replayed.{Replayed}
 
--- both chips at the end, the ending number, the bytes taken, and the answers in order
+-- both chips at the end, why it ended, the bytes taken, and the answers in order
 pub record Run : Type 0 where
   pub bench : Bench
-  pub ending : ℕ
+  pub ending : Ending
   pub taken : ℕ
   pub answers : List Answer
 
 -- a replay that ends here
-abbrev pub stop : Bench → ℕ → Run
+abbrev pub stop : Bench → Ending → Run
 stop b ending = record { bench = b; ending = ending; taken = 0; answers = [] }
 
 -- bytes taken and answers given, and then what a further replay gives
@@ -31,15 +31,15 @@ onto taken answers r =
 abbrev pub after : Stepped → (Bench → Run) → Run
 after s rest = onto 4 (s.answer ∷ []) (rest s.bench)
 
--- A batch, the output bytes that are left, and both chips. At each record it is asked in this order: is the batch empty (0), do only one
--- to three bytes remain (3), are fewer than eight output bytes left (4). If not, the record is taken whole and its answer uses eight.
+-- A batch, the output bytes that are left, and both chips. At each record it is asked in this order: is the batch empty, do only one
+-- to three bytes remain, are fewer than eight output bytes left. If not, the record is taken whole and its answer uses eight.
 unfoldable pub run_of : List ℕ → ℕ → Bench → Run
-run_of [] room b = stop b 0
-run_of (x ∷ []) room b = stop b 3
-run_of (x ∷ y ∷ []) room b = stop b 3
-run_of (x ∷ y ∷ z ∷ []) room b = stop b 3
+run_of [] room b = stop b Empty
+run_of (x ∷ []) room b = stop b CutShort
+run_of (x ∷ y ∷ []) room b = stop b CutShort
+run_of (x ∷ y ∷ z ∷ []) room b = stop b CutShort
 run_of (kind ∷ hi ∷ lo ∷ value ∷ rest) room b =
-    when ltb room 8 then stop b 4 else after (step_of b kind hi lo value) (run_of rest (room - 8))
+    when ltb room 8 then stop b NoRoom else after (step_of b kind hi lo value) (run_of rest (room - 8))
 
 -- the answers' bytes, one answer after the other
 unfoldable pub written_of : List Answer → List ℕ
@@ -47,22 +47,21 @@ written_of [] = []
 written_of (a ∷ l) = bytes_of a ++ written_of l
 
 -- the run of a batch into an output, on two chips
-abbrev pub ran_of : List ℕ → List ℕ → Controller → Multiplexer → Run
-ran_of batch out c m = run_of batch (length out) (record { controller = c; multiplexer = m })
+abbrev pub ran_of : List ℕ → List ℕ → Bench → Run
+ran_of batch out b = run_of batch (length out) b
 
--- what is returned: both chips, the ending number, how many bytes were taken and how many answers written
-abbrev pub ended_of : Bench → ℕ → ℕ → ℕ → Replayed
-ended_of b ending taken answers =
-    record { controller = b.controller; multiplexer = b.multiplexer; ending = ending; taken = taken; answers = answers }
+-- what is returned: both chips, why the replay ended, how many bytes were taken and how many answers written
+abbrev pub ended_of : Bench → Ending → ℕ → ℕ → Replayed
+ended_of b ending taken answers = record { bench = b; ending = ending; taken = taken; answers = answers }
 
 -- the same of a run
 abbrev pub returned_of : Run → Replayed
 returned_of r = ended_of r.bench r.ending r.taken (length r.answers)
 
 -- what a replay of a batch into an output returns, on two chips
-unfoldable pub replay_of : List ℕ → List ℕ → Controller → Multiplexer → Replayed
-replay_of batch out c m = returned_of (ran_of batch out c m)
+unfoldable pub replay_of : List ℕ → List ℕ → Bench → Replayed
+replay_of batch out b = returned_of (ran_of batch out b)
 
 -- what the output then holds: the answers' bytes at its front, and past them what stood there
-unfoldable pub output_of : List ℕ → List ℕ → Controller → Multiplexer → List ℕ
-output_of batch out c m = laid_at out 0 (written_of (ran_of batch out c m).answers)
+unfoldable pub output_of : List ℕ → List ℕ → Bench → List ℕ
+output_of batch out b = laid_at out 0 (written_of (ran_of batch out b).answers)

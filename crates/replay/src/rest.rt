@@ -9,9 +9,5 @@ pub fn unread_rest(batch: &[u8], taken: usize) -> &[u8]
     ensures place { result.ref_ptr ≡ rest_at batch.entry.ref_ptr batch.now taken }
     ensures batch { batch.exit.now ≡ batch.entry.now }
 {
-    if taken <= batch.len() {
-        return &batch[taken..];
-    }
-    let end = batch.len();
-    &batch[end..]
+    &batch[taken.min(batch.len())..]
 }

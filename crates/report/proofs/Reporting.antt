@@ -1,22 +1,27 @@
 -- The report as its loop and its call lay it. Assumes nothing.
-use Prim.Native.Nat.{ℕ, ◌+◌, ◌*◌, ◌/◌, ◌%◌, ◌<◌, ◌≤◌}
+use Prim.Native.Nat.{ℕ, ◌+◌, ◌-◌, ◌*◌, ◌/◌, ◌%◌, ◌<◌, ◌≤◌}
 use mathlib.Core.Path.{◌≡◌, refl, ap, sym, ◌∙◌}
 use mathlib.Core.Bool.{Bool, true, false, ◌&&◌, and-eq-true_iff}
 use mathlib.Core.List.{List, ◌++◌}
 use native.Mathlib.Omega.{arith}
 use lib.Dec.{eqb, ltb, leb}
-use lib.ListN.{length, get_or, drop, length-append, get_or-append}
+use lib.ListN.{length, get_or, take, drop, length-append, length-drop, get_or-append}
+use lib.Seq.{take-append_seam, drop-append_seam, drop-drop}
 use borrow.Author.Tests.{lt-ltb, le-ltb, ltb-false, leb-true}
+use Rattle.std.specs.Prelude.{Result, Ok, Err}
 use Rattle.basics.specs.Choice.{when◌then◌else◌}
 use Rattle.basics.specs.Count.{count}
 use Rattle.basics.specs.Lay.{laid_at}
 use Rattle.basics.proofs.Counting.{each_last, length-each, each_at}
 use Rattle.basics.proofs.Laying.{laid_none, laid-laid, laid-front, length-laid}
 use Rattle.setting.specs.Setting.{bytes, started_of}
+use Rattle.controller.specs.declared.chip.Controller.{Controller}
 use Rattle.tally.specs.Sums.{sum, greatest}
 use Rattle.tally.specs.Tally.{tally_of, no_tally, AtMost}
 use Rattle.tally.specs.declared.tally.Tally.{Tally}
-use Rattle.report.specs.Report.{most, row, row_of, places_of, totals_of, setting_at, tally_at, tallies_of, settings_in, report_of, needed, are_settings, refusal_of, reported_of}
+use Rattle.report.specs.Report.{most, row, row_of, places_of, totals_of, setting_at, tally_at, tallies_of, settings_in, report_of, needed, are_settings, number_of, outcome_of, refusal_of, reported_of}
+use Rattle.report.specs.declared.settings.Refusal.{Refusal}
+use Rattle.report.specs.declared.settings.Refusal.TheVariants.{Settings, Places}
 use Rattle.report.specs.private.Joined.{joined_of}
 use Rattle.report.proofs.Totals.{length-row, places-last, length-places, first-of-row, totals-last, joined-most}
 
@@ -27,6 +32,39 @@ pub record Laying (given out₀ : List ℕ) (k : ℕ) (out : List ℕ) (total : 
   pub rows : out ≡ laid_at out₀ 0 (places_of (tallies_of given k))
   pub totals : total ≡ totals_of (tallies_of given k)
   pub small : AtMost (k * 235794944) total
+
+-- Where the chunks stand after n of them: what is left of the settings, and the number of the next.
+pub record Chunked (given : List ℕ) (n count size : ℕ) (rest : List ℕ) : Type 0 where
+  pub next : count ≡ n
+  pub each : size ≡ bytes
+  pub left : rest ≡ drop (bytes * n) given
+
+-- the front of two lists, and what stands behind it
+chunk-parts : (m : ℕ) (x behind : List ℕ) → length x ≡ m → (take m (x ++ behind) ≡ x) × (drop m (x ++ behind) ≡ behind)
+chunk-parts m x behind w = (rw (← w) (take-append_seam x behind), rw (← w) (drop-append_seam x behind))
+
+-- the next chunk is the next setting
+pub record Chunk (given x behind : List ℕ) (n : ℕ) : Type 0 where
+  pub here : x ≡ setting_at given n
+  pub left : behind ≡ drop (bytes * (n + 1)) given
+  pub among : n < settings_in given
+
+pub chunk-next : (given rest x behind : List ℕ) (n : ℕ) → rest ≡ drop (bytes * n) given → rest ≡ x ++ behind → length x ≡ bytes → Chunk given x behind n
+chunk-next given rest x behind n l e w =
+    let parts = chunk-parts bytes x behind w in
+    let same : x ++ behind ≡ drop (bytes * n) given = sym e ∙ l in
+    let on : bytes * n + bytes ≡ bytes * (n + 1) = omega arith in
+    let long : length x + length behind ≡ length given - bytes * n = sym (length-append x behind) ∙ ap length same ∙ length-drop (bytes * n) given in
+    record {
+      here = sym parts.0 ∙ ap (take bytes) same;
+      left = sym parts.1 ∙ ap (drop bytes) same ∙ drop-drop bytes (bytes * n) given ∙ ap (λ (k : ℕ). drop k given) on;
+      among = omega arith;
+    }
+
+-- what is counted of it
+pub chunk-tally : (given x : List ℕ) (n : ℕ) (c : Controller) (one : Tally) → x ≡ setting_at given n → c ≡ started_of x → one ≡ tally_of c → one ≡ tally_at given n
+unfolding tally_at
+chunk-tally given x n c one e s t = t ∙ ap tally_of (s ∙ ap started_of e)
 
 length-first : (given : List ℕ) (k : ℕ) → length (places_of (tallies_of given k)) ≡ row * k
 length-first given k = length-places (tallies_of given k) ∙ ap (λ (n : ℕ). row * n) (length-each (tally_at given) k)
@@ -56,21 +94,21 @@ module _ (given out₀ : List ℕ) where
       }
 
   -- the three ways in which the call ends
-  pub ended-10 : are_settings (length given) ≡ false → (10 ≡ refusal_of given out₀) × ((out₀ ≡ reported_of given out₀) × (given ≡ given))
-  unfolding refusal_of reported_of when◌then◌else◌
-  ended-10 w = (rw w, (rw w, refl))
+  pub ended-settings : are_settings (length given) ≡ false → (Err Settings ≡ outcome_of given out₀) × ((out₀ ≡ reported_of given out₀) × (given ≡ given))
+  unfolding outcome_of reported_of when◌then◌else◌
+  ended-settings w = (rw w, (rw w, refl))
 
-  pub ended-11 : are_settings (length given) ≡ true → length out₀ < needed given
-      → (11 ≡ refusal_of given out₀) × ((out₀ ≡ reported_of given out₀) × (given ≡ given))
-  unfolding refusal_of reported_of when◌then◌else◌
-  ended-11 w h = let q : ltb (length out₀) (needed given) ≡ true = lt-ltb _ _ h in (rw (w, q), (rw (w, q), refl))
+  pub ended-places : are_settings (length given) ≡ true → length out₀ < needed given
+      → (Err Places ≡ outcome_of given out₀) × ((out₀ ≡ reported_of given out₀) × (given ≡ given))
+  unfolding outcome_of reported_of when◌then◌else◌
+  ended-places w h = let q : ltb (length out₀) (needed given) ≡ true = lt-ltb _ _ h in (rw (w, q), (rw (w, q), refl))
 
-  pub ended-0 : (mid out : List ℕ) (total : Tally) → are_settings (length given) ≡ true → needed given ≤ length out₀
+  pub ended-well : (mid out : List ℕ) (total : Tally) → are_settings (length given) ≡ true → needed given ≤ length out₀
       → mid ≡ laid_at out₀ 0 (places_of (tallies_of given (settings_in given))) → total ≡ totals_of (tallies_of given (settings_in given))
       → out ≡ laid_at mid (row * settings_in given) (row_of total)
-      → (0 ≡ refusal_of given out₀) × ((out ≡ reported_of given out₀) × (given ≡ given))
-  unfolding refusal_of reported_of report_of when◌then◌else◌
-  ended-0 mid out total w h em et eo =
+      → (Ok tt ≡ outcome_of given out₀) × ((out ≡ reported_of given out₀) × (given ≡ given))
+  unfolding outcome_of reported_of report_of when◌then◌else◌
+  ended-well mid out total w h em et eo =
       let q : ltb (length out₀) (needed given) ≡ false = le-ltb _ _ h in
       let n = settings_in given in
       let both : laid_at mid (row * n) (row_of total) ≡ laid_at out₀ 0 (places_of (tallies_of given n) ++ row_of (totals_of (tallies_of given n))) =
@@ -86,6 +124,11 @@ settings-few n w =
     let q = (and-eq-true_iff (ltb 0 n && leb n (most * bytes)) (eqb (n % bytes) 0)).0 w in
     omega (arith, leb-true n (most * bytes) ((and-eq-true_iff (ltb 0 n) (leb n (most * bytes))).0 q.0).1)
 
+-- the number of an outcome is the number of how the call ends
+pub numbered : (given out : List ℕ) (r : Result (Unit {0}) Refusal) → r ≡ outcome_of given out → number_of r ≡ refusal_of given out
+unfolding refusal_of
+numbered given out r e = ap number_of e
+
 -- what an answer of 0 says: the bytes are settings, there was room, and the report is laid
 pub record Done (given out : List ℕ) : Type 0 where
   pub settings : are_settings (length given) ≡ true
@@ -93,11 +136,11 @@ pub record Done (given out : List ℕ) : Type 0 where
   pub laid : reported_of given out ≡ laid_at out 0 (report_of given)
 
 pub done : (given out : List ℕ) → refusal_of given out ≡ 0 → Done given out
-unfolding refusal_of reported_of when◌then◌else◌
+unfolding refusal_of outcome_of reported_of when◌then◌else◌
 done given out = go (are_settings (length given)) refl (ltb (length out) (needed given)) refl
   where
     go : (b : Bool) → are_settings (length given) ≡ b → (f : Bool) → ltb (length out) (needed given) ≡ f
-        → ◌≡◌ {A = ℕ} (when b then (when f then 11 else 0) else 10) 0
+        → number_of (when b then (when f then Err Places else Ok tt) else Err Settings) ≡ 0
         → Done given out
     go true e false f z = record { settings = e; room = ltb-false _ _ f; laid = rw (e, f) }
     go true e true f z = absurd (omega arith)
@@ -105,7 +148,7 @@ done given out = go (are_settings (length given)) refl (ltb (length out) (needed
 
 -- and any other where there are places enough for every report: they are not
 pub not-settings : (given out : List ℕ) → row * (most + 1) ≤ length out → (refusal_of given out ≡ 0 → ⊥) → are_settings (length given) ≡ false
-unfolding refusal_of when◌then◌else◌
+unfolding refusal_of outcome_of when◌then◌else◌
 not-settings given out h n = go (are_settings (length given)) refl
   where
     go : (b : Bool) → are_settings (length given) ≡ b → are_settings (length given) ≡ false

@@ -3,37 +3,20 @@ use Prim.Native.Nat.{ℕ, zero, suc, ◌+◌, ◌*◌, ◌<◌, ◌≤◌}
 use mathlib.Core.Path.{◌≡◌, refl, ap, sym, ◌∙◌}
 use mathlib.Core.List.{List, [], ◌∷◌, ◌++◌, map-append, append_assoc, append-nil}
 use native.Mathlib.Omega.{arith}
-use lib.ListN.{length, get_or, set, length-append}
+use lib.ListN.{length, get_or, length-append}
 use lib.Seq.{get_or-append-add}
-use Rattle.basics.specs.Lay.{laid_at}
-use Rattle.basics.proofs.Laying.{laid-sets, laid_next}
 use Rattle.tally.specs.Tally.{no_tally, AtMost}
 use Rattle.tally.specs.declared.tally.Tally.{Tally}
 use Rattle.tally.proofs.Summing.{sum-last, greatest-last}
 use Rattle.report.specs.Report.{row, row_of, places_of, totals_of}
 use Rattle.report.specs.private.Joined.{joined_of}
 
--- seven stores one after the other
-module _ (t : List ℕ) (at : ℕ) where
-  store : (u v : List ℕ) (x n : ℕ) → u ≡ laid_at t at v → length v ≡ n → at + n + 1 ≤ length t → set u (at + n) x ≡ laid_at t at (v ++ (x ∷ []))
-  store u v x n e l h = rw e (laid_next t at v x (at + n) (omega arith) (omega arith))
-
-  pub seven-laid : (k : Tally) → at + row ≤ length t
-      → set (set (set (set (set (set (set t at k.picture) (at + 1) k.display) (at + 2) k.cursor) (at + 3) k.hsync) (at + 4) k.vsync) (at + 5) k.changed) (at + 6) k.most
-      ≡ laid_at t at (row_of k)
-  unfolding row_of
-  seven-laid k h =
-      let first : set t at k.picture ≡ laid_at t at (k.picture ∷ []) = laid-sets t at (k.picture ∷ []) (omega arith) in
-      let one = store _ _ k.display 1 first refl (omega arith) in
-      let two = store _ _ k.cursor 2 one refl (omega arith) in
-      let three = store _ _ k.hsync 3 two refl (omega arith) in
-      let four = store _ _ k.vsync 4 three refl (omega arith) in
-      let five = store _ _ k.changed 5 four refl (omega arith) in
-      store _ _ k.most 6 five refl (omega arith)
-
 pub length-row : (k : Tally) → length (row_of k) ≡ row
 unfolding row_of
 length-row k = refl
+
+pub row_long : (k : Tally) → length (row_of k) ≡ row
+row_long = length-row
 
 -- one row more, behind the others
 pub places-last : (l : List Tally) (k : Tally) → places_of (l ++ (k ∷ [])) ≡ places_of l ++ row_of k

@@ -1,5 +1,5 @@
 -- The report on a batch of settings (document 02, W1): a row of seven places for each, then a row of totals, and the two refusals.
-use Rattle.std.specs.Prelude.{ℕ, ◌+◌, ◌*◌, ◌/◌, ◌%◌, Bool, ◌&&◌, List, [], ◌∷◌, ◌++◌, map, eqb, ltb, leb, length, take, drop}
+use Rattle.std.specs.Prelude.{ℕ, ◌+◌, ◌*◌, ◌/◌, ◌%◌, Bool, ◌&&◌, List, [], ◌∷◌, ◌++◌, map, eqb, ltb, leb, length, take, drop, Result, Ok, Err}
 use Rattle.basics.specs.Choice.{when◌then◌else◌}
 use Rattle.basics.specs.Count.{count}
 use Rattle.basics.specs.Lay.{laid_at}
@@ -7,6 +7,8 @@ use Rattle.setting.specs.Setting.{bytes, started_of}
 use Rattle.tally.specs.Sums.{sum, greatest}
 use Rattle.tally.specs.Tally.{tally_of}
 use Rattle.tally.specs.declared.tally.Tally.{Tally}
+use Rattle.report.specs.declared.settings.Refusal.{Refusal}
+use Rattle.report.specs.declared.settings.Refusal.TheVariants.{Settings, Places}
 
 -- the most settings of a report
 abbrev pub most : ℕ
@@ -66,10 +68,20 @@ needed given = row * (settings_in given + 1)
 unfoldable pub are_settings : ℕ → Bool
 are_settings n = ltb 0 n && leb n (most * bytes) && eqb (n % bytes) 0
 
--- How the call ends. What the bytes are is looked at first: 10 where they are not such settings; then 11 where there are too few places;
--- else 0, and the report is given.
+-- How the call ends. What the bytes are is looked at first: refused where they are not such settings; then where there are too few places;
+-- else the report is given.
+unfoldable pub outcome_of : List ℕ → List ℕ → Result (Unit {0}) Refusal
+outcome_of given out = when are_settings (length given) then (when ltb (length out) (needed given) then Err Places else Ok tt) else Err Settings
+
+-- the number that each outcome has: 0 where the report is given, 10 for bytes that are no settings, 11 for too few places
+abbrev pub number_of : Result (Unit {0}) Refusal → ℕ
+number_of (Ok given) = 0
+number_of (Err Settings) = 10
+number_of (Err Places) = 11
+
+-- the number of how the call ends
 unfoldable pub refusal_of : List ℕ → List ℕ → ℕ
-refusal_of given out = when are_settings (length given) then (when ltb (length out) (needed given) then 11 else 0) else 10
+refusal_of given out = number_of (outcome_of given out)
 
 -- The places afterwards: the report from the first on, and after it as they were. A refusal leaves every one as it was.
 unfoldable pub reported_of : List ℕ → List ℕ → List ℕ

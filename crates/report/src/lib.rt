@@ -5,4 +5,4 @@ mod rows;
 mod settings;
 
 pub use rows::ROW;
-pub use settings::{INPUT, MOST, report};
+pub use settings::{INPUT, MOST, Refusal, report};

@@ -3,30 +3,36 @@ ghost use Rattle.std.specs.Prelude.{◌≡◌, ◌+◌, ◌*◌, ◌≤◌, leng
 ghost use Rattle.basics.specs.Lay.{laid_at};
 ghost use Rattle.setting.specs.Setting.{bytes};
 ghost use Rattle.tally.specs.Tally.{AtMost};
-ghost use Rattle.report.specs.Report.{most, row, row_of, places_of, totals_of, tally_at, tallies_of};
+ghost use Rattle.report.specs.Report.{most, row, row_of, places_of, totals_of, settings_in, tallies_of};
 ghost use Rattle.report.specs.private.Joined.{joined_of};
 
 use setting::{BYTES, start};
-use tally::{Tally, count_frame, greater};
+use tally::{Tally, count_frame};
 
 // How many places a row has.
 pub const ROW: usize = 7;
 
-// Lays a row from at on.
+// The seven numbers in the order of a row.
+#[tactic(auto, unfolding(crate::specs::Report::row_of))]
+fn row_of(k: Tally) -> [u64; ROW]
+    ensures { result ≡ row_of k }
+{
+    [
+        k.picture, k.display, k.cursor, k.hsync, k.vsync, k.changed, k.most,
+    ]
+}
+
+// Lays a row from at on. The places are the caller's, and what they hold besides is promised.
+#[tactic(auto, using(basics::proofs::Laying::part_laid, crate::proofs::Totals::row_long))]
 pub(crate) fn put_row(out: &mut [u64], at: usize, k: Tally)
     requires { at + row ≤ length out.old }
     ensures { out.new ≡ laid_at out.old at (row_of k) }
 {
-    out[at] = k.picture;
-    out[at + 1] = k.display;
-    out[at + 2] = k.cursor;
-    out[at + 3] = k.hsync;
-    out[at + 4] = k.vsync;
-    out[at + 5] = k.changed;
-    out[at + 6] = k.most;
+    out[at..at + ROW].copy_from_slice(&row_of(k));
 }
 
 // The totals with one row more: the sums, and the greater of the two largest changes.
+#[tactic(auto, unfolding(crate::specs::private::Joined::joined_of))]
 fn joined(total: Tally, one: Tally) -> Tally
     requires at_most { AtMost 1099511627776 total }
     requires at_most_2 { AtMost 1099511627776 one }
@@ -39,36 +45,22 @@ fn joined(total: Tally, one: Tally) -> Tally
         hsync: total.hsync + one.hsync,
         vsync: total.vsync + one.vsync,
         changed: total.changed + one.changed,
-        most: greater(total.most, one.most),
+        most: total.most.max(one.most),
     }
 }
 
-// What the frame of the k-th setting does.
-fn tally_at(settings: &[u8], k: usize) -> Tally
-    requires { bytes * k + bytes ≤ length settings.now }
-    ensures is { result ≡ tally_at settings.now k }
-    ensures most { AtMost 235794944 result }
-{
-    let from = BYTES * k;
-    let to = from + BYTES;
-    count_frame(start(&settings[from..to]))
-}
-
-// Lays the rows of the first n settings and gives their totals.
-pub(crate) fn put_rows(out: &mut [u64], settings: &[u8], n: usize) -> Tally
-    requires n_le_most { n ≤ most }
-    requires n_in_bounds { bytes * n ≤ length settings.now }
-    requires n_in_bounds_2 { row * n ≤ length out.old }
-    ensures laid { out.new ≡ laid_at out.old 0 (places_of (tallies_of settings.now n)) }
-    ensures totals { result ≡ totals_of (tallies_of settings.now n) }
+// Lays the row of each setting and gives their totals.
+pub(crate) fn put_rows(out: &mut [u64], settings: &[u8]) -> Tally
+    requires n_le_most { settings_in settings.now ≤ most }
+    requires n_in_bounds { row * settings_in settings.now ≤ length out.old }
+    ensures laid { out.new ≡ laid_at out.old 0 (places_of (tallies_of settings.now (settings_in settings.now))) }
+    ensures totals { result ≡ totals_of (tallies_of settings.now (settings_in settings.now)) }
 {
     let mut total = Tally::none();
-    let mut k: usize = 0;
-    while k < n {
-        let one = tally_at(settings, k);
+    for (k, setting) in settings.chunks_exact(BYTES).enumerate() {
+        let one = count_frame(start(setting));
         put_row(out, ROW * k, one);
         total = joined(total, one);
-        k += 1;
     }
     total
 }

@@ -1,15 +1,14 @@
 // The whole text.
 ghost use Rattle.std.specs.Prelude.{◌≡◌, ◌+◌, ◌*◌, ◌≤◌, length};
-ghost use Rattle.basics.specs.Lay.{Writes, laid_at};
-ghost use Rattle.text.specs.Speech.{Counts};
+ghost use Rattle.text.specs.private.Adds.{Adds};
 ghost use Rattle.report.specs.Report.{row};
 ghost use Rattle.report_text.specs.Text.{text_length, table_of, report_text_of};
 
-use crate::lines::{line, lines};
-use basics::put;
+use crate::lines::{put_line, put_rows};
 use decimal::DIGITS;
 use report::{MOST, ROW, report};
 use setting::BYTES;
+use text::Text;
 
 // The longest input that is reported on.
 pub const INPUT: usize = report::INPUT;
@@ -21,28 +20,27 @@ const PLACES: usize = ROW * (MOST + 1);
 pub const TEXT: usize = (DIGITS + 1) * PLACES + 6;
 
 // The lines of n rows, and of the row of totals behind them.
-fn table(text: &mut [u8], places: &[u64], n: usize) -> usize
+fn put_table(text: &mut Text<TEXT>, places: &[u64], n: usize)
     requires { row * (n + 1) ≤ length places.now }
-    ensures { Writes text.old text.new 0 result (table_of places.now n) }
+    ensures { Adds TEXT text.old text.new (table_of places.now n) }
 {
-    let p = lines(text, 0, places, n);
-    let q = put(text, p, b"total ");
-    let from = ROW * n;
-    let to = from + ROW;
-    line(text, q, &places[from..to])
+    let (rows, behind) = places.split_at(ROW * n);
+    put_rows(text, rows);
+    text.put(b"total ");
+    put_line(text, &behind[..ROW]);
 }
 
-// The text for an input, laid at the front; how long it is. The buffer lent is as long as its definition says, to the byte.
-pub fn tell(input: &[u8], text: &mut [u8; TEXT]) -> usize
-    ensures lent { length text.old ≡ text_length }
-    ensures long { result ≡ length (report_text_of input.now) }
-    ensures laid { text.new ≡ laid_at text.old 0 (report_text_of input.now) }
-    ensures part { Counts result text.new }
+// The text for an input.
+pub fn tell(input: &[u8]) -> Text<TEXT>
+    ensures room { TEXT ≡ text_length }
+    ensures text { result ≡ report_text_of input.now }
     ensures kept { input.exit.now ≡ input.entry.now }
 {
     let mut places = [0u64; PLACES];
-    if report(input, &mut places) == 0 {
-        return table(text, &places, input.len() / BYTES);
+    let mut text = Text::new();
+    match report(input, &mut places) {
+        Ok(()) => put_table(&mut text, &places, input.len() / BYTES),
+        Err(_) => text.put(b"refused 10\n"),
     }
-    put(text, 0, b"refused 10\n")
+    text
 }

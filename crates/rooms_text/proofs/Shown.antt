@@ -1,34 +1,45 @@
 -- Laws of the text of `rooms`. Assumes nothing.
-use Prim.Native.Nat.{ℕ, ◌+◌, ◌-◌, ◌*◌, ◌≤◌}
+use Prim.Native.Nat.{ℕ, ◌+◌, ◌-◌, ◌*◌, ◌/◌, ◌%◌, ◌<◌, ◌≤◌, min}
+use mathlib.Core.Logic.{⊎_elim}
 use mathlib.Core.Path.{◌≡◌, refl, ap, ◌∙◌}
-use mathlib.Core.List.{List}
+use mathlib.Core.List.{List, [], ◌∷◌}
 use native.Mathlib.Omega.{arith}
 use lib.Dec.{ltb}
-use lib.ListN.{length, take, drop, get_or, replicate, length-append, length-replicate, replicate-append-replicate}
-use lib.Seq.{take_at}
-use borrow.Author.Tests.{ltb-false}
-use Rattle.basics.specs.Lay.{laid_at, Writes}
+use lib.ListN.{length, take, drop, get_or, replicate, length-append, length-drop, length-replicate, replicate-append-replicate}
+use lib.Seq.{take_at, take_all}
+use borrow.Author.Tests.{ltb-false, lt-ltb, le-ltb}
+use Rattle.basics.specs.Lay.{laid_at}
 use Rattle.basics.specs.Bits.{word_of}
-use Rattle.basics.proofs.Laying.{length-laid, then-writes}
-use Rattle.basics.proofs.Cases.{if-both}
+use Rattle.basics.proofs.Laying.{length-laid}
+use Rattle.basics.proofs.Cases.{if-both, if_yes, if_no}
+use Rattle.basics.proofs.Tests.{lt-or-ge}
 use Rattle.answer.specs.declared.Answer.{Answer}
+use Rattle.replay.specs.Ending.{ending_number}
 use Rattle.replay.specs.Run.{written_of, returned_of}
 use Rattle.replay.specs.declared.run.Replayed.{Replayed}
 use Rattle.replay.proofs.Replaying.{length-written}
 use Rattle.batch.specs.Fresh.{most_output, fresh_run_of}
 use Rattle.batch.proofs.Ran.{answers-have-room}
 use Rattle.text.specs.Lines.{lines_of}
+use Rattle.text.specs.private.Adds.{Adds}
+use Rattle.text.proofs.Adding.{then-adds}
 use Rattle.text.proofs.Lining.{length-lines}
 use Rattle.rooms_text.specs.Rooms.{room_of, counts_of, given_text_of, shown_of, head_bytes, room_text_of}
 use Rattle.rooms_text.specs.Lengths.{room_text_length}
 
 -- the counts and then the whole output, of what a replay gave
-pub shows : {t u s out' told : List ℕ} {p q : ℕ} {r : Replayed} (batch out : List ℕ) → r ≡ returned_of (fresh_run_of batch (length out))
-    → out' ≡ laid_at out 0 (written_of (fresh_run_of batch (length out)).answers) → told ≡ counts_of r.ending r.taken r.answers
-    → Writes t u 0 p (lines_of told)
-    → Writes u s p q (lines_of out') → Writes t s 0 q (shown_of batch out)
+pub shows : {room : ℕ} {t u s out' told : List ℕ} {r : Replayed} (batch out : List ℕ) → r ≡ returned_of (fresh_run_of batch (length out))
+    → out' ≡ laid_at out 0 (written_of (fresh_run_of batch (length out)).answers) → told ≡ counts_of (ending_number r.ending) r.taken r.answers
+    → Adds room t u (lines_of told) → Adds room u s (lines_of out') → Adds room t s (shown_of batch out)
 unfolding shown_of given_text_of
-shows batch out returned output counts a b = then-writes (rw (counts, returned) at a) (rw output at b)
+shows batch out returned output counts a b = then-adds (rw (counts, returned) at a) (rw output at b)
+
+-- all that is behind the two bytes of an input
+pub behind-head : (input : List ℕ) → take (length input - head_bytes) (drop head_bytes input) ≡ drop head_bytes input
+behind-head input = take_all (length input - head_bytes) (drop head_bytes input) (simp length-drop (omega arith))
+
+pub length_behind : (input : List ℕ) → length (take (length input - head_bytes) (drop head_bytes input)) ≡ length input - head_bytes
+length_behind input = ap length (behind-head input) ∙ length-drop head_bytes input
 
 -- the front of an array that holds one byte throughout
 pub front : (n m a : ℕ) → n ≤ m → take n (replicate m a) ≡ replicate n a
@@ -39,11 +50,30 @@ front n m a h =
 pub length_front : (n m a : ℕ) → n ≤ m → length (take n (replicate m a)) ≡ n
 length_front n m a h = ap length (front n m a h) ∙ length-replicate n a
 
+-- the room that is asked for, or that of all answers where that is less
+pub least : (hi lo n : ℕ) → n ≡ min (word_of hi lo) most_output → n ≡ room_of hi lo
+unfolding room_of
+least hi lo n e =
+    let w = word_of hi lo in
+    ⊎_elim
+    (λ (more : most_output < w). if_yes (ltb most_output w) most_output w n (lt-ltb most_output w more) (omega arith))
+    (λ (few : w ≤ most_output). if_no (ltb most_output w) most_output w n (le-ltb most_output w few) (omega arith))
+    (lt-or-ge most_output w)
+
 -- no output is longer than all answers
 room_most : (hi lo : ℕ) → room_of hi lo ≤ most_output
 unfolding room_of
 room_most hi lo =
     if-both (λ (n : ℕ). n ≤ most_output) (ltb most_output (word_of hi lo)) most_output (word_of hi lo) (λ yes. omega arith) (λ no. ltb-false most_output (word_of hi lo) no)
+
+-- the bytes of two counts, the high one of each first
+pub counts-are : (ending taken answers : ℕ) → taken < 65536 → answers < 65536
+    → (ending ∷ taken / 256 % 256 ∷ taken % 256 ∷ answers / 256 % 256 ∷ answers % 256 ∷ 0 ∷ 0 ∷ 0 ∷ []) ≡ counts_of ending taken answers
+unfolding counts_of
+counts-are ending taken answers h g =
+    let a : taken / 256 % 256 ≡ taken / 256 = omega arith in
+    let b : answers / 256 % 256 ≡ answers / 256 = omega arith in
+    rw (a, b)
 
 pub length-counts : (ending taken answers : ℕ) → length (counts_of ending taken answers) ≡ 8
 unfolding counts_of
@@ -58,11 +88,11 @@ given-has-room ending taken answers out room h =
     let same : length left ≡ length out = length-laid out 0 (written_of answers) (omega (arith, length-written answers)) in
     simp length-append (omega (arith, length-lines told, length-lines left, length-counts ending taken (length answers)))
 
-shown-has-room : (batch out : List ℕ) → length out ≤ most_output → length (shown_of batch out) ≤ room_text_length
+pub shown-has-room : (batch out : List ℕ) → length out ≤ most_output → length (shown_of batch out) ≤ room_text_length
 unfolding shown_of
 shown-has-room batch out h =
     let run = fresh_run_of batch (length out) in
-    given-has-room run.ending run.taken run.answers out (answers-have-room batch (length out)) h
+    given-has-room (ending_number run.ending) run.taken run.answers out (answers-have-room batch (length out)) h
 
 -- every text has room
 pub room-text-has-room : (input : List ℕ) → length (room_text_of input) ≤ room_text_length

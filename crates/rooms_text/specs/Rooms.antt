@@ -5,6 +5,7 @@ use Rattle.basics.specs.Bits.{word_of, high_of, low_of}
 use Rattle.basics.specs.Choice.{when◌then◌else◌}
 use Rattle.basics.specs.Lay.{laid_at}
 use Rattle.answer.specs.declared.Answer.{Answer}
+use Rattle.replay.specs.Ending.{ending_number}
 use Rattle.replay.specs.Run.{Run, written_of}
 use Rattle.batch.specs.Fresh.{most_bytes, most_output, fresh_run_of}
 use Rattle.text.specs.Lines.{lines_of}
@@ -27,7 +28,7 @@ given_text_of ending taken answers out =
 
 -- the same of a run
 abbrev pub ran_text_of : Run → List ℕ → List ℕ
-ran_text_of r out = given_text_of r.ending r.taken r.answers out
+ran_text_of r out = given_text_of (ending_number r.ending) r.taken r.answers out
 
 -- a batch on fresh chips, into an output
 unfoldable pub shown_of : List ℕ → List ℕ → List ℕ

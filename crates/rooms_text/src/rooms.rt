@@ -1,14 +1,12 @@
 // A replay into an output of a chosen size, shown byte for byte.
 ghost use Rattle.std.specs.Prelude.{◌≡◌, ◌≤◌, length};
-ghost use Rattle.basics.specs.Lay.{Writes, laid_at};
 ghost use Rattle.batch.specs.Fresh.{most_bytes, most_output};
-ghost use Rattle.text.specs.Speech.{Counts};
 ghost use Rattle.rooms_text.specs.Lengths.{room_text_length};
 ghost use Rattle.rooms_text.specs.Rooms.{room_of, counts_of, shown_of, room_text_of};
 
-use basics::{high, low, put, word};
+use basics::word;
 use batch::{OUTPUT, replay_fresh};
-use text::{LINE, PER_LINE, put_lines};
+use text::{LINE, PER_LINE, Text};
 
 // How many bytes say the output's length.
 const HEAD: usize = 2;
@@ -24,23 +22,21 @@ pub fn room_of(hi: u8, lo: u8) -> usize
     ensures is { result ≡ room_of hi lo }
     ensures most { result ≤ most_output }
 {
-    let asked = word(hi, lo) as usize;
-    if OUTPUT < asked {
-        return OUTPUT;
-    }
-    asked
+    usize::from(word(hi, lo)).min(OUTPUT)
 }
 
-// The counts of a replay, or of a call on a serial line, as eight bytes.
+// The counts of a replay, or of a call on a serial line, as eight bytes. Stays a function of three: two programs make it of two types.
 pub fn counts(ending: u8, taken: u16, answers: u16) -> [u8; 8]
     ensures { result ≡ counts_of ending taken answers }
 {
+    let [taken_high, taken_low] = taken.to_be_bytes();
+    let [answers_high, answers_low] = answers.to_be_bytes();
     [
         ending,
-        high(taken),
-        low(taken),
-        high(answers),
-        low(answers),
+        taken_high,
+        taken_low,
+        answers_high,
+        answers_low,
         0,
         0,
         0,
@@ -48,36 +44,35 @@ pub fn counts(ending: u8, taken: u16, answers: u16) -> [u8; 8]
 }
 
 // A batch replayed on fresh chips into an output: its counts, and then the whole output.
-fn shown(text: &mut [u8], batch: &[u8], out: &mut [u8]) -> usize
+fn shown(batch: &[u8], out: &mut [u8]) -> Text<TEXT>
     requires batch_len_bound { length batch.now ≤ most_bytes }
     requires out_len_bound { length out.old ≤ most_output }
-    ensures { Writes text.old text.new 0 result (shown_of batch.now out.old) }
+    ensures { result ≡ shown_of batch.now out.old }
 {
     let replayed = replay_fresh(batch, out);
     let told = counts(
-        replayed.ending,
+        u8::from(replayed.ending),
         replayed.taken as u16,
         replayed.answers as u16,
     );
-    let p = put_lines(text, 0, &told);
-    put_lines(text, p, out)
+    let mut text = Text::new();
+    text.put_lines(&told);
+    text.put_lines(out);
+    text
 }
 
-// The text for an input, laid at the front; how long it is. The buffer lent is as long as its definition says, to the byte.
-pub fn room(input: &[u8], text: &mut [u8; TEXT]) -> usize
-    ensures lent { length text.old ≡ room_text_length }
-    ensures long { result ≡ length (room_text_of input.now) }
-    ensures laid { text.new ≡ laid_at text.old 0 (room_text_of input.now) }
-    ensures part { Counts result text.new }
+// The text for an input.
+pub fn room(input: &[u8]) -> Text<TEXT>
+    ensures room { TEXT ≡ room_text_length }
+    ensures text { result ≡ room_text_of input.now }
     ensures kept { input.exit.now ≡ input.entry.now }
 {
-    if input.len() < HEAD {
-        return put(text, 0, b"no room\n");
+    let [high, low, batch @ ..] = input else {
+        return Text::of(b"no room\n");
+    };
+    if batch::MOST < batch.len() {
+        return Text::of(b"too long\n");
     }
-    if INPUT < input.len() {
-        return put(text, 0, b"too long\n");
-    }
-    let room = room_of(input[0], input[1]);
     let mut out = [0xA5u8; OUTPUT];
-    shown(text, &input[HEAD..], &mut out[..room])
+    shown(batch, &mut out[..room_of(*high, *low)])
 }

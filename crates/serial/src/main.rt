@@ -4,70 +4,52 @@
 
 use line::Line;
 use serial_text::{space, tell, tell_end};
-use std::io::Read;
-use streams::write_all;
-use text::said;
+use std::convert::AsSlice;
+use std::io::{Read, Write};
+use streams::complain;
 
-// The line after a turn, whether the input could be read, whether anything came, and whether the text was written.
+// What stops the turns: the input's end, with the line as it was left, or a read or a write that fails.
 #[derive(Clone, Copy)]
-struct Turn {
-    line: Line,
-    readable: bool,
-    came: bool,
-    written: bool,
+enum Stop {
+    Ended(Line),
+    Unread,
+    Unwritten,
 }
 
-// Reads once, and prints the answers to what came. Where nothing came, the cut is empty, and so is the text.
-fn one_turn(rt: &HostRuntime, before: Line) -> Turn {
+// Reads once, prints the answers to what came, and gives the line after it.
+fn one_turn(rt: &HostRuntime, before: Line) -> Result<Line, Stop> {
     let mut cut = space();
-    let got = rt.stdin().read(&mut cut);
-    let readable = got.is_ok();
-    let n = got.unwrap_or(0);
-    let mut text = [0u8; serial_text::TEXT];
-    let told = tell(before, &cut[..n], &mut text);
-    let k = told.long;
-    let written = write_all(&mut rt.stdout(), &text[..k]);
+    let n = rt.stdin().read(&mut cut).map_err(|_| Stop::Unread)?;
+    let told = tell(before, &cut[..n]);
     let line = told.line;
-    Turn {
-        line,
-        readable,
-        came: n > 0,
-        written,
+    rt.stdout()
+        .write_all(told.text.as_slice())
+        .map_err(|_| Stop::Unwritten)?;
+    if n == 0 {
+        return Err(Stop::Ended(line));
     }
+    Ok(line)
 }
 
-// Turn after turn, until nothing comes or nothing can be written. A loop has to be shown to end, and no input has to: so the turns are
-// counted down, from a number that no run uses up.
-fn all_turns(rt: &HostRuntime, first: Line) -> Turn {
-    let mut last = Turn {
-        line: first,
-        readable: true,
-        came: true,
-        written: true,
-    };
-    let mut left = u64::MAX;
-    while left > 0 {
-        last = one_turn(rt, last.line);
-        if !last.came || !last.written {
-            return last;
-        }
-        left -= 1;
+// Turn after turn, until one stops them. A loop has to be shown to end, and no input has to: so there are only as many turns as no run
+// uses up.
+fn all_turns(rt: &HostRuntime, first: Line) -> Result<Line, Stop> {
+    let mut line = first;
+    for _ in 0..u64::MAX {
+        line = one_turn(rt, line)?;
     }
-    last
+    Ok(line)
 }
 
 fn main(rt: HostRuntime) {
-    let last = all_turns(&rt, Line::fresh());
-    let ended = last.readable & !last.came & last.written;
-    let mut text = [0u8; serial_text::LAST];
-    let k = tell_end(last.line, &mut text);
-    let shown: &[u8] = &text[..k];
-    let written = write_all(&mut rt.stdout(), &shown[..said(ended, shown)]);
-    let unread: &[u8] = b"standard input cannot be read\n";
-    write_all(&mut rt.stderr(), &unread[..said(!last.readable, unread)]);
-    let unwritten: &[u8] = b"standard output cannot be written\n";
-    write_all(
-        &mut rt.stderr(),
-        &unwritten[..said(!(last.written & written), unwritten)],
-    );
+    match all_turns(&rt, Line::fresh()) {
+        Ok(_) => (),
+        Err(Stop::Ended(line)) => {
+            let last = tell_end(line);
+            let written = rt.stdout().write_all(last.as_slice());
+            complain(&rt, true, written.is_ok());
+        }
+        Err(Stop::Unread) => complain(&rt, false, true),
+        Err(Stop::Unwritten) => complain(&rt, true, false),
+    }
 }

@@ -14,10 +14,12 @@ use Rattle.decimal.proofs.Digits.{one-digit}
 use Rattle.every_line.specs.Cuts.{RoomFor, Same, last_of, answers_of, Roomy}
 use Rattle.every_line.proofs.Cuts.{together}
 use Rattle.every_replay.proofs.Counts.{sound}
+use Rattle.line.specs.CallEnding.{call_ending_number}
 use Rattle.line.specs.Line.{fresh_line, closing_of}
 use Rattle.line.specs.declared.calls.Line.{Line}
 use Rattle.line.proofs.Holding.{held-most}
 use Rattle.lister.specs.Listing.{end_of, listed_of, batch_listing_of, listing_of}
+use Rattle.replay.specs.Ending.{ending_number}
 use Rattle.serial_text.specs.Turn.{turn_of, turn_text_of}
 use Rattle.serial_text.specs.Ending.{last_text_of}
 use Rattle.serial_listing.specs.Printed.{as_cuts, input_of, WithinOneRead, so_far_of, printed_of, PrintsTheListing}
@@ -38,7 +40,7 @@ read-roomy l (cut ∷ cuts) h =
     (simp length-append (omega (arith, held-most l.held, h.0)), read-roomy (turn_of l cut).line cuts h.1)
 
 -- the last line, of a number of one digit
-last_end : (l : Line) (n : ℕ) → (closing_of l).ending ≡ n → n < 10 → last_text_of l ≡ end_of n
+last_end : (l : Line) (n : ℕ) → call_ending_number (closing_of l).ending ≡ n → n < 10 → last_text_of l ≡ end_of n
 unfolding last_text_of
 last_end l n e h =
     let digit : n % 10 ≡ n = omega arith in
@@ -49,7 +51,7 @@ module _ (cuts : List (List ℕ)) (read : WithinOneRead cuts) (room : ℕ) (enou
   unfolding fresh_run_of
   same = (together fresh_line).cuts refl (as_cuts cuts) (read-roomy fresh_line cuts read) room enough
 
-  small : (fresh_run_of (input_of cuts) room).ending < 10
+  small : ending_number (fresh_run_of (input_of cuts) room).ending < 10
   unfolding fresh_run_of
   small = ⊎_elim (λ e. omega (arith, e)) (λ m. ⊎_elim (λ e. omega (arith, e)) (λ e. omega (arith, e)) m) (sound (input_of cuts) room fresh_bench).endings
 
@@ -58,7 +60,7 @@ module _ (cuts : List (List ℕ)) (read : WithinOneRead cuts) (room : ℕ) (enou
 
   all : printed_of cuts ≡ listed_of (fresh_run_of (input_of cuts) room)
   unfolding listed_of
-  all = ap₂ (λ (x y : List ℕ). x ++ y) lines (last_end (last_of fresh_line (as_cuts cuts)) (fresh_run_of (input_of cuts) room).ending same.number_same small)
+  all = ap₂ (λ (x y : List ℕ). x ++ y) lines (last_end (last_of fresh_line (as_cuts cuts)) (ending_number (fresh_run_of (input_of cuts) room).ending) same.number_same small)
 
 is-listing : (cuts : List (List ℕ)) → WithinOneRead cuts → length (input_of cuts) ≤ most_bytes → printed_of cuts ≡ listing_of (input_of cuts)
 unfolding listing_of batch_listing_of when◌then◌else◌

@@ -1,19 +1,18 @@
 -- The text of a cut, and of the end. Assumes nothing.
 use Prim.Native.Nat.{ℕ, ◌*◌, ◌≤◌}
-use mathlib.Core.List.{List}
-use mathlib.Core.Path.{◌≡◌, ap, ◌∙◌}
+use mathlib.Core.List.{List, [], ◌++◌}
+use mathlib.Core.Path.{◌≡◌, ap, ap₂, ◌∙◌}
 use native.Mathlib.Omega.{arith}
 use lib.ListN.{length, take, replicate, length-append, length-replicate}
-use Rattle.basics.specs.Lay.{laid_at, Laid}
 use Rattle.text.specs.Lines.{per_line}
-use Rattle.text.specs.Speech.{Counts}
-use Rattle.text.proofs.Whole.{whole-text}
 use Rattle.decimal.proofs.Digits.{length-decimal}
 use Rattle.decimal.specs.Decimal.{most_digits}
-use Rattle.answer_lines.specs.Marked.{WritesLines}
-use Rattle.answer_lines.proofs.Lined.{lines-answers, length-answers}
+use Rattle.answer_lines.specs.Lines.{answer_lines_of}
+use Rattle.answer_lines.specs.Marked.{with_lines}
+use Rattle.answer_lines.proofs.Lined.{adds-lines, lines-answers}
 use Rattle.replay.specs.Run.{written_of}
 use Rattle.replay.proofs.Replaying.{length-written}
+use Rattle.line.specs.CallEnding.{call_ending_number}
 use Rattle.line.specs.Line.{outcome_of, closing_of, accept_of, accepted_of}
 use Rattle.line.specs.declared.calls.Line.{Line}
 use Rattle.line.specs.declared.calls.Called.{Called}
@@ -38,23 +37,22 @@ pub out_within : (l : Line) (cut : List ℕ) {r : Called} {out' : List ℕ} → 
 out_within l cut {r} {out'} e w = (rw length-lent at (accept-within l cut lent r e).1, accepted-same l cut lent out' w ∙ length-lent)
 
 -- what the call gave, on lines
-pub told : (l : Line) (cut : List ℕ) {r : Called} {out' t u : List ℕ} {q : ℕ} → length t ≡ turn_length → r ≡ accept_of l cut lent → out' ≡ accepted_of l cut lent
-    → WritesLines t u 0 q (take (per_line * r.answers) out')
-    → (◌≡◌ {A = Told} (record { line = r.line; ending = r.ending; taken = r.taken; long = q }) (told_of l cut))
-    × ((u ≡ laid_at t 0 (turn_text_of l cut)) × (Counts q u × (cut ≡ cut)))
+pub told : (l : Line) (cut : List ℕ) {r : Called} {out' t u : List ℕ} → t ≡ [] → r ≡ accept_of l cut lent → out' ≡ accepted_of l cut lent
+    → u ≡ with_lines turn_length t (take (per_line * r.answers) out')
+    → ◌≡◌ {A = Told} (record { line = r.line; ending = r.ending; taken = r.taken; text = u }) (told_of l cut)
 unfolding accept_of turn_text_of told_of
-told l cut {r} {out'} {t} {u} {q} long e w a =
+told l cut {r} {out'} {t} {u} empty e w a =
     let answers = (turn_of l cut).answers in
     let bytes : length (written_of answers) ≡ 8 * length answers = length-written answers in
     let most = (outcome-within l cut most_out).1 in
     let same : outcome_of l cut (length lent) ≡ turn_of l cut = ap (outcome_of l cut) length-lent in
     let front : take (per_line * r.answers) out' ≡ written_of answers = rw same at (accepted-front l cut lent r e out' w) in
-    let lines : WritesLines t u 0 q (written_of answers) = rw front at a in
-    let laid : Laid t u 0 q (turn_text_of l cut) = rw (← lines-answers answers) (lines (omega (arith, bytes, most, long))) in
-    let whole = whole-text {i = cut} (omega (arith, length-answers answers, most, long)) (λ _. laid) in
-    (rw (e, same, whole.0), whole.1)
+    let text : u ≡ answer_lines_of answers =
+    adds-lines turn_length t (written_of answers) (rw front at a) (omega (arith, bytes, most, ap length empty))
+    ∙ ap₂ (λ (x y : List ℕ). x ++ y) empty (lines-answers answers) in
+    rw (e, same, text)
 
 -- the last line has room
 pub last-has-room : (l : Line) → length (last_text_of l) ≤ last_length
 unfolding last_text_of
-last-has-room l = simp length-append (omega (arith, length-decimal most_digits (closing_of l).ending))
+last-has-room l = simp length-append (omega (arith, length-decimal most_digits (call_ending_number (closing_of l).ending)))

@@ -1,6 +1,6 @@
 -- What the program `serial` prints of a cut (document 02, W3; document 01, "Records and what comes back", for the form of a line).
 -- Decision: it reads up to 256 bytes at once. So a call has at most 64 answers, the bytes held before it counted in, and room for them all.
-use Rattle.std.specs.Prelude.{ℕ, ◌*◌, ◌/◌, List, length}
+use Rattle.std.specs.Prelude.{ℕ, ◌*◌, ◌/◌, ◌≡◌, List}
 use Rattle.answer_lines.specs.Lines.{answer_lines_of}
 use Rattle.answer_lines.specs.Marked.{marked_length}
 use Rattle.line.specs.Line.{Outcome, outcome_of}
@@ -28,7 +28,11 @@ turn_text_of l cut = answer_lines_of (turn_of l cut).answers
 abbrev pub turn_length : ℕ
 turn_length = marked_length * most_turn_answers
 
--- what is returned
+-- what is returned: what the call gave, and its text
 unfoldable pub told_of : Line → List ℕ → Told
 told_of l cut =
-    record { line = (turn_of l cut).line; ending = (turn_of l cut).ending; taken = (turn_of l cut).taken; long = length (turn_text_of l cut) }
+    record { line = (turn_of l cut).line; ending = (turn_of l cut).ending; taken = (turn_of l cut).taken; text = turn_text_of l cut }
+
+-- in what is told of a cut stands that text
+abbrev pub TextTold : Line → List ℕ → Type 0
+TextTold l cut = (told_of l cut).text ≡ turn_text_of l cut

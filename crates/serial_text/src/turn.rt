@@ -1,12 +1,10 @@
 // A cut that came off the line, and its answers on lines.
-ghost use Rattle.std.specs.Prelude.{◌≡◌, length, replicate};
-ghost use Rattle.basics.specs.Lay.{laid_at};
-ghost use Rattle.text.specs.Speech.{Counts};
-ghost use Rattle.serial_text.specs.Turn.{most_cut, turn_length, told_of, turn_text_of};
+ghost use Rattle.std.specs.Prelude.{◌≡◌, replicate};
+ghost use Rattle.serial_text.specs.Turn.{most_cut, turn_length, told_of};
 
 use answer_lines::{MARKED, put_answers};
-use line::Line;
-use text::PER_LINE;
+use line::{CallEnding, Line};
+use text::{PER_LINE, Text};
 
 // How many bytes are read at once, at most.
 pub const CUT: usize = 256;
@@ -27,32 +25,29 @@ pub fn space() -> [u8; CUT]
     [0; CUT]
 }
 
-// The line after a cut, how the call ended, the bytes taken, and how long the text is.
-#[derive(Clone, Copy)]
+// The line after a cut, how the call ended, the bytes taken, and the text.
+#[derive(Drop)]
 pub struct Told {
     pub line: Line,
-    pub ending: u8,
+    pub ending: CallEnding,
     pub taken: usize,
-    pub long: usize,
+    pub text: Text<TEXT>,
 }
 
-// Hands a cut to a line, and lays the lines of its answers at the front of the text.
-pub fn tell(before: Line, cut: &[u8], text: &mut [u8; TEXT]) -> Told
-    ensures lent { length text.old ≡ turn_length }
+// Hands a cut to a line; the text has the lines of its answers.
+pub fn tell(before: Line, cut: &[u8]) -> Told
+    ensures room { TEXT ≡ turn_length }
     ensures told { result ≡ told_of before cut.now }
-    ensures laid { text.new ≡ laid_at text.old 0 (turn_text_of before cut.now) }
-    ensures part { Counts result.long text.new }
     ensures kept { cut.exit.now ≡ cut.entry.now }
 {
     let mut out = [0u8; OUTPUT];
     let called = before.accept(cut, &mut out);
-    let written = PER_LINE * called.answers;
-    let long = put_answers(text, 0, &out[..written]);
-    let line = called.line;
+    let mut text = Text::new();
+    put_answers(&mut text, &out[..PER_LINE * called.answers]);
     Told {
-        line,
+        line: called.line,
         ending: called.ending,
         taken: called.taken,
-        long,
+        text,
     }
 }

@@ -1,2 +1,3 @@
-pub mod Clean
+pub mod Made
+pub mod Starting
 pub mod Writes

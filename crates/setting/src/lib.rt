@@ -6,6 +6,7 @@ ghost use Rattle.setting.specs.Setting.{bytes, cut_of, setting_of, started_of, c
 
 use controller::{Controller, kept};
 use raster::Registers;
+use std::array;
 
 // How many bytes a setting has.
 pub const BYTES: usize = 16;
@@ -14,24 +15,14 @@ pub const BYTES: usize = 16;
 fn byte_at(given: &[u8], k: usize) -> u8
     ensures { result ≡ get_or given.now k 0 }
 {
-    if k < given.len() {
-        return given[k];
-    }
-    0
+    given.get(k).copied().unwrap_or(0)
 }
 
 // What each register keeps of its byte.
 fn cut(given: &[u8]) -> [u8; BYTES]
     ensures { result ≡ cut_of given.now }
 {
-    let mut held = [0u8; BYTES];
-    let mut k: usize = 0;
-    while k < BYTES {
-        let register = k as u8;
-        held[k] = kept(register, byte_at(given, k));
-        k += 1;
-    }
-    held
+    array::from_fn(|k| kept(k as u8, byte_at(given, k)))
 }
 
 // Whether every register keeps its whole byte, so that no bit is set that it lacks.
@@ -39,34 +30,30 @@ pub fn is_clean(given: &[u8]) -> bool
     ensures is { result ≡ clean_of given.now }
     ensures kept { given.exit.now ≡ given.entry.now }
 {
-    let mut k: usize = 0;
-    while k < BYTES {
-        let register = k as u8;
-        let byte = byte_at(given, k);
-        if kept(register, byte) != byte {
-            return false;
-        }
-        k += 1;
-    }
-    true
+    (0..BYTES).all(|k| kept(k as u8, byte_at(given, k)) == byte_at(given, k))
 }
 
 // The registers of a setting.
+#[tactic(auto, unfolding(crate::specs::Setting::setting_of))]
 pub fn registers(given: &[u8]) -> Registers
     ensures is { result ≡ setting_of given.now }
     ensures kept { given.exit.now ≡ given.entry.now }
 {
-    let held = cut(given);
-    Registers { held, named: 15 }
+    Registers {
+        held: cut(given),
+        named: 15,
+    }
 }
 
 // The controller that a setting starts.
+#[tactic(auto, using(crate::proofs::Starting::starts_by_reset))]
 pub fn start(given: &[u8]) -> Controller
     ensures is { result ≡ started_of given.now }
     ensures kept { given.exit.now ≡ given.entry.now }
 {
-    let mut c = Controller::fresh();
-    c.regs = registers(given);
-    let started = c.reset();
-    started
+    let set = Controller {
+        regs: registers(given),
+        ..Controller::fresh()
+    };
+    set.reset()
 }

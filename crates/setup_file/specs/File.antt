@@ -1,6 +1,5 @@
 -- The file of a setup (document 02, W6): its contents, and then the bodies that they tell of.
-use Rattle.std.specs.Prelude.{ℕ, ◌+◌, ◌*◌, List, [], ◌∷◌, ◌++◌, length}
-use Rattle.std.proofs.Math.Option.{Option, none, some}
+use Rattle.std.specs.Prelude.{ℕ, ◌+◌, ◌*◌, List, [], ◌∷◌, ◌++◌, length, Option, None, Some}
 use Rattle.basics.specs.Bits.{high_of, low_of}
 use Rattle.setup_file.specs.declared.kind.Kind.{Kind}
 use Rattle.setup_file.specs.declared.kind.Kind.TheVariants.{Registers, Control, Batch}
@@ -13,8 +12,8 @@ pub record Piece : Type 0 where
 
 -- a part that is not there leaves nothing in the file
 abbrev pub piece_if : ℕ → Option (List ℕ) → List Piece
-piece_if kind none = []
-piece_if kind (some body) = record { kind = kind; body = body } ∷ []
+piece_if kind None = []
+piece_if kind (Some body) = record { kind = kind; body = body } ∷ []
 
 abbrev pub piece_of : Setup → Kind → List Piece
 piece_of s kind = piece_if (kind_of kind) (body_of s kind)

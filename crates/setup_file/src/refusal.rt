@@ -2,7 +2,7 @@
 ghost use Rattle.std.specs.Prelude.{◌≡◌};
 ghost use Rattle.setup_file.specs.Refusals.{number_of};
 
-#[derive(Clone, Copy)]
+#[derive(Clone, Copy, Debug, PartialEq, Eq)]
 pub enum Refusal {
     Contents,
     Kinds,
@@ -11,12 +11,12 @@ pub enum Refusal {
     Room,
 }
 
-impl Refusal {
-    // Its number in the request.
-    pub fn number(self) -> u8
-        ensures { result ≡ number_of self }
-    {
-        match self {
+// Its number in the request.
+impl From<Refusal> for u8 {
+    ghost from_gives = { λ why number. number ≡ number_of why };
+
+    fn from(why: Refusal) -> u8 {
+        match why {
             Refusal::Contents => 13,
             Refusal::Kinds => 14,
             Refusal::Places => 15,

@@ -1,2 +1,3 @@
-pub mod Ends
+pub mod Asking
+pub mod Ranks
 pub mod Walking

@@ -5,12 +5,9 @@ use mathlib.Core.Path.{◌≡◌, refl, ap}
 use mathlib.Core.List.{List, [], ◌∷◌}
 use native.Mathlib.Numerals.{add-one}
 use native.Mathlib.Omega.{arith}
-use lib.Dec.{leb, ltb}
 use lib.ListN.{length}
-use borrow.Author.Tests.{leb-true, ltb-true}
-use Rattle.setup_file.specs.File.{contents_length}
 use Rattle.setup_reader.specs.declared.entries.Entry.{Entry}
-use Rattle.setup_reader.specs.Entries.{told_of, whole_of, entry_at, entries_at}
+use Rattle.setup_reader.specs.Entries.{entry_at, entries_at}
 
 -- as many as they are
 pub length-entries : (file : List ℕ) (i n : ℕ) → length (entries_at file i n) ≡ n
@@ -41,17 +38,3 @@ module _ (file : List ℕ) (n : ℕ) where
 pub both : (t u : Bool) → (t && u) ≡ true → (t ≡ true) × (u ≡ true)
 both true u q = (refl, q)
 both false u q = absurd (false≢true q)
-
--- what a file has whose contents are whole
-pub record Has (file : List ℕ) : Type 0 where
-  pub some : 0 < told_of file
-  pub most : told_of file ≤ 3
-  pub long : contents_length (told_of file) ≤ length file
-
-pub whole_has : (file : List ℕ) → whole_of file ≡ true → Has file
-unfolding whole_of
-whole_has file q =
-    let told = told_of file in
-    let first = both (ltb 0 told) (leb told 3 && leb (contents_length told) (length file)) q in
-    let second = both (leb told 3) (leb (contents_length told) (length file)) first.1 in
-    record { some = ltb-true 0 told first.0; most = leb-true told 3 second.0; long = leb-true (contents_length told) (length file) second.1 }

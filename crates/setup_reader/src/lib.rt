@@ -2,12 +2,11 @@
 #![tactic(auto)]
 
 mod bodies;
+mod contents;
 mod entries;
-mod opened;
 mod places;
 mod read;
 
 pub use bodies::part;
-pub use opened::Opened;
-pub use places::{Place, Places};
+pub use places::{Places, Span};
 pub use read::open;

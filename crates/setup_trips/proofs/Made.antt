@@ -3,26 +3,27 @@ use Prim.Native.Nat.{ℕ, suc, ◌+◌, ◌*◌}
 use mathlib.Core.Bool.{Bool, true, false, ◌&&◌}
 use mathlib.Core.Path.{◌≡◌, refl, sym, ap}
 use mathlib.Core.List.{List, [], ◌∷◌, ◌++◌}
-use mathlib.Core.Option.{Option, none, some}
 use native.Mathlib.Omega.{arith}
 use lib.Dec.{eqb}
 use lib.ListN.{length, get_or, take, drop, length-append}
 use lib.Seq.{get_or-drop, drop-drop, take_at, drop_at}
 use borrow.Author.Tests.{eq-eqb}
+use Rattle.std.specs.Prelude.{Option, None, Some}
 use Rattle.basics.specs.Bits.{word_of, high_of, low_of}
 use Rattle.basics.specs.Choice.{when◌then◌else◌}
+use Rattle.setup_file.specs.Setup.{kind_at}
 use Rattle.setup_file.specs.File.{Piece, entry_bytes, entries_from, bodies_of}
 use Rattle.setup_reader.specs.declared.entries.Entry.{Entry}
-use Rattle.setup_reader.specs.declared.places.Place.{Place}
+use Rattle.setup_reader.specs.declared.places.Span.{Span}
 use Rattle.setup_reader.specs.Entries.{entry_at, entries_at}
-use Rattle.setup_reader.specs.Judged.{length_fits, lies_at, placed_of}
+use Rattle.setup_reader.specs.Judged.{rank_of, length_fits, lies_at, placed_of}
 use Rattle.setup_reader.specs.Read.{place_in, body_at}
 use Rattle.setup_reader.proofs.Walking.{both}
 
 -- the entries of bodies that stand one after the other
 unfoldable pub made_from : ℕ → List Piece → List Entry
 made_from at [] = []
-made_from at (p ∷ ps) = record { kind = p.kind; offset = at; size = length p.body } ∷ made_from (at + length p.body) ps
+made_from at (p ∷ ps) = record { kind = kind_at p.kind; offset = at; size = length p.body } ∷ made_from (at + length p.body) ps
 
 -- a number of its two bytes
 pub word_bytes : (x : ℕ) → word_of (high_of x) (low_of x) ≡ x
@@ -34,7 +35,7 @@ behind l at k i e = rw e (sym (get_or-drop at l k 0))
 
 -- the bytes of an entry are read as that entry
 entry_read : (file : List ℕ) (i kind at size : ℕ) (rest : List ℕ) → drop (5 * i + 1) file ≡ entry_bytes kind at size ++ rest
-    → entry_at file i ≡ record { kind = kind; offset = at; size = size }
+    → entry_at file i ≡ record { kind = kind_at kind; offset = at; size = size }
 unfolding entry_at
 entry_read file i kind at size rest e =
     rw (
@@ -65,7 +66,7 @@ entries-read file i at (p ∷ ps) rest e =
 -- lengths that their kinds allow
 unfoldable pub all_fit : List Piece → Bool
 all_fit [] = true
-all_fit (p ∷ ps) = length_fits p.kind (length p.body) && all_fit ps
+all_fit (p ∷ ps) = length_fits (kind_at p.kind) (length p.body) && all_fit ps
 
 -- bodies that fit and stand one after the other up to the end are placed
 pub placed-made : (at : ℕ) (ps : List Piece) (long : ℕ) → all_fit ps ≡ true → at + length (bodies_of ps) ≡ long → placed_of at (made_from at ps) long ≡ true
@@ -73,17 +74,17 @@ unfolding all_fit bodies_of placed_of made_from lies_at
 placed-made at [] long fit e = eq-eqb at long (omega arith)
 placed-made at (p ∷ ps) long fit e =
     let size = length p.body in
-    let f = both (length_fits p.kind size) (all_fit ps) fit in
+    let f = both (length_fits (kind_at p.kind) size) (all_fit ps) fit in
     let end : at + size + length (bodies_of ps) ≡ long = omega (arith, length-append p.body (bodies_of ps)) in
     rw (eq-eqb at at refl, f.0, placed-made (at + size) ps long f.1 end)
 
 -- the body of the first piece of a kind
 unfoldable pub body_in : ℕ → List Piece → Option (List ℕ)
-body_in kind [] = none
-body_in kind (p ∷ ps) = when eqb p.kind kind then some p.body else body_in kind ps
+body_in kind [] = None
+body_in kind (p ∷ ps) = when eqb (rank_of (kind_at p.kind)) kind then Some p.body else body_in kind ps
 
 -- of two places the one that a test chooses has the body that the test chooses
-chosen : (file : List ℕ) (t : Bool) (x y : Place) (b d : Option (List ℕ)) → body_at file x ≡ b → body_at file y ≡ d
+chosen : (file : List ℕ) (t : Bool) (x y : Option Span) (b d : Option (List ℕ)) → body_at file x ≡ b → body_at file y ≡ d
     → body_at file (when t then x else y) ≡ when t then b else d
 unfolding when◌then◌else◌
 chosen file true x y b d p q = p
@@ -97,4 +98,4 @@ body-made file kind at (p ∷ ps) e =
     let size = length p.body in
     let here : take size (drop at file) ≡ p.body = rw e (take_at p.body (bodies_of ps) size refl) in
     let next : drop (at + size) file ≡ bodies_of ps = rw (← drop-drop size at file, e) (drop_at p.body (bodies_of ps) size refl) in
-    chosen file (eqb p.kind kind) _ _ _ _ (ap some here) (body-made file kind (at + size) ps next)
+    chosen file (eqb (rank_of (kind_at p.kind)) kind) _ _ _ _ (ap Some here) (body-made file kind (at + size) ps next)

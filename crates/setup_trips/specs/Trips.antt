@@ -1,6 +1,5 @@
 -- Reader and writer undo each other (document 02, W6), and what the parts of a file are.
-use Rattle.std.specs.Prelude.{ℕ, ◌+◌, ◌<◌, ◌≤◌, ◌≡◌, List, ◌++◌, length, get_or, take, drop}
-use Rattle.std.proofs.Math.Option.{Option, none, some}
+use Rattle.std.specs.Prelude.{ℕ, ◌+◌, ◌<◌, ◌≤◌, ◌≡◌, List, ◌++◌, Option, None, Some, Ok, Err, length, get_or, take, drop}
 use Rattle.setting.specs.Setting.{started_of}
 use Rattle.setup_file.specs.Setup.{Setup, register_bytes, body_of}
 use Rattle.setup_file.specs.File.{file_of}
@@ -8,16 +7,14 @@ use Rattle.setup_file.specs.declared.kind.Kind.{Kind}
 use Rattle.setup_file.specs.declared.kind.Kind.TheVariants as kind
 use Rattle.setup_file.specs.declared.refusal.Refusal.{Refusal}
 use Rattle.setup_file.specs.declared.refusal.Refusal.TheVariants as why
-use Rattle.setup_reader.specs.declared.places.Place.TheVariants.{At}
-use Rattle.setup_reader.specs.declared.opened.Opened.TheVariants as opened
-use Rattle.setup_reader.specs.Read.{opened_of, place_of, shown_of, body_at, read_of, took}
-use Rattle.setup_writer.specs.declared.answer.Written.TheVariants as wrote
+use Rattle.setup_reader.specs.declared.places.Span.{Span}
+use Rattle.setup_reader.specs.Read.{opened_of, place_of, shown_of, body_at, read_of}
 use Rattle.setup_writer.specs.Write.{written_of, output_of}
 
 -- what holds of a part where it is there
 abbrev pub Each : {A : Type 0} → (A → Type 0) → Option A → Type 0
-Each P none = Unit {0}
-Each P (some x) = P x
+Each P None = Unit {0}
+Each P (Some x) = P x
 
 -- a setup of the writer's own arguments: by their types the registers are sixteen and the control bits a number of sixteen bits
 pub record Typed (s : Setup) : Type 0 where
@@ -31,32 +28,32 @@ Bytes file = (i : ℕ) → get_or file i 0 < 256
 -- A setup, written into an output.
 pub record WrittenRead (s : Setup) (output : List ℕ) : Type 0 where
   -- where it is written, reading the bytes that were written gives the setup back
-  pub read : (n : ℕ) → Typed s → written_of s (length output) ≡ wrote.Bytes n → read_of (take n (output_of output s)) ≡ took s
+  pub read : (n : ℕ) → Typed s → written_of s (length output) ≡ Ok n → read_of (take n (output_of output s)) ≡ Ok s
   -- and the bytes past the file are as they were
-  pub past : (n : ℕ) → written_of s (length output) ≡ wrote.Bytes n → drop n (output_of output s) ≡ drop n output
+  pub past : (n : ℕ) → written_of s (length output) ≡ Ok n → drop n (output_of output s) ≡ drop n output
   -- where it is refused, all of them are
-  pub kept : (r : Refusal) → written_of s (length output) ≡ wrote.Refused r → output_of output s ≡ output
+  pub kept : (r : Refusal) → written_of s (length output) ≡ Err r → output_of output s ≡ output
   -- and never for its kinds: a setup cannot be handed over with a wrong one
-  pub kinds : written_of s (length output) ≡ wrote.Refused why.Kinds → ⊥
+  pub kinds : written_of s (length output) ≡ Err why.Kinds → ⊥
 
 -- A file, read as a setup, and that setup written into an output.
 pub record ReadWritten (file : List ℕ) (s : Setup) (output : List ℕ) : Type 0 where
   -- the file is, byte for byte, the one that the setup has
-  pub same : Bytes file → read_of file ≡ took s → file_of s ≡ file
+  pub same : Bytes file → read_of file ≡ Ok s → file_of s ≡ file
   -- with room for it, it is written so, and the bytes past it are as they were
-  pub written : Bytes file → read_of file ≡ took s → length file ≤ length output → written_of s (length output) ≡ wrote.Bytes (length file)
-  pub laid : Bytes file → read_of file ≡ took s → length file ≤ length output → output_of output s ≡ file ++ drop (length file) output
+  pub written : Bytes file → read_of file ≡ Ok s → length file ≤ length output → written_of s (length output) ≡ Ok (length file)
+  pub laid : Bytes file → read_of file ≡ Ok s → length file ≤ length output → output_of output s ≡ file ++ drop (length file) output
   -- without, it is refused for the room alone
-  pub full : Bytes file → read_of file ≡ took s → length output < length file → written_of s (length output) ≡ wrote.Refused why.Room
+  pub full : Bytes file → read_of file ≡ Ok s → length output < length file → written_of s (length output) ≡ Err why.Room
 
 -- The parts of a file, as the calls show them.
 pub record PartsShown (file : List ℕ) (s : Setup) : Type 0 where
   -- of a file that is read as a setup each part is the setup's own, there or not
-  pub body : Bytes file → read_of file ≡ took s → (k : Kind) → body_at file (place_of (opened_of file) k) ≡ body_of s k
+  pub body : Bytes file → read_of file ≡ Ok s → (k : Kind) → body_at file (place_of (opened_of file) k) ≡ body_of s k
   -- each lies in the file
-  pub lies : (k : Kind) (start size : ℕ) → place_of (opened_of file) k ≡ At start size → start + size ≤ length file
+  pub lies : (k : Kind) (span : Span) → place_of (opened_of file) k ≡ Some span → span.start + span.size ≤ length file
   -- its registers are a setting whose bytes the controller that it starts holds as they stand
-  pub held : (b : List ℕ) → read_of file ≡ took s → s.registers ≡ some b → shown_of file (place_of (opened_of file) kind.Registers) ≡ b
-  pub starts : (b : List ℕ) → read_of file ≡ took s → s.registers ≡ some b → (started_of b).regs ≡ record { held = b; named = 15 }
+  pub held : (b : List ℕ) → read_of file ≡ Ok s → s.registers ≡ Some b → shown_of file (place_of (opened_of file) kind.Registers) ≡ b
+  pub starts : (b : List ℕ) → read_of file ≡ Ok s → s.registers ≡ Some b → (started_of b).regs ≡ record { held = b; named = 15 }
   -- and a file is never refused for the room
-  pub room : opened_of file ≡ opened.Refused why.Room → ⊥
+  pub room : opened_of file ≡ Err why.Room → ⊥

@@ -1,10 +1,9 @@
 // Writing a customer's setup file into a lent output.
 #![tactic(auto)]
 
-mod answer;
 mod layout;
+mod parts;
 mod pieces;
 mod writer;
 
-pub use answer::Written;
 pub use writer::write;

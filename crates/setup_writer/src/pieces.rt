@@ -1,98 +1,77 @@
-// The pieces of a file, each laid behind what the output holds already. Each gives the place behind what it laid.
-ghost use Rattle.std.specs.Prelude.{◌≡◌, [], ◌∷◌};
-ghost use Rattle.basics.specs.Bits.{high_of, low_of};
+// The pieces of a file, each laid behind what the output holds already. Each gives the place behind what it laid. They
+// stay writers into a buffer with a place beside it: the output is the caller's, and what it holds behind the file is promised.
+ghost use Rattle.std.specs.Prelude.{◌≡◌, ◌≤◌, ◌<◌, ◌^◌, [], ◌∷◌, length, option_copied};
 ghost use Rattle.basics.specs.Lay.{Writes};
-ghost use Rattle.setup_file.specs.Setup.{kind_of};
-ghost use Rattle.setup_file.specs.File.{entry_bytes};
-ghost use Rattle.setup_writer.specs.private.Layout.{count_of, bytes_if, contents_of, bodies_if};
+ghost use Rattle.setup_file.specs.Setup.{kind_of, most_batch};
+ghost use Rattle.setup_writer.specs.Write.{given_of, bytes_in};
+ghost use Rattle.setup_writer.specs.private.Layout.{entry_in, contents_of, bodies_in};
 
 use crate::layout::{batch_at, control_at, count, registers_at};
+use crate::parts::{pair, slice_of};
 use basics::{high, low, put};
-use setup_file::{Kind, Parts};
+use setup_file::{Kind, Setup};
 
 // The bytes of a part that is there.
-fn bytes(dst: &mut [u8], p: usize, there: bool, src: &[u8]) -> usize
-    ensures { Writes dst.old dst.new p result (bytes_if there src.now) }
+fn bytes(dst: &mut [u8], p: usize, part: Option<&[u8]>) -> usize
+    ensures { Writes dst.old dst.new p result (bytes_in (option_copied part.entry)) }
 {
-    if there {
-        return put(dst, p, src);
+    match part {
+        Some(body) => put(dst, p, body),
+        None => p,
     }
-    p
 }
 
 // The entry of a part that is there.
-fn entry(dst: &mut [u8], p: usize, there: bool, kind: Kind, offset: u16, size: u16) -> usize
-    ensures { Writes dst.old dst.new p result (bytes_if there (entry_bytes (kind_of kind) offset size)) }
+fn entry(dst: &mut [u8], p: usize, kind: Kind, offset: u16, part: Option<&[u8]>) -> usize
+    requires { length (bytes_in (option_copied part)) < 2 ^ 16 }
+    ensures { Writes dst.old dst.new p result (entry_in (kind_of kind) offset (option_copied part.entry)) }
 {
-    let src = [
-        kind.number(),
-        high(offset),
-        low(offset),
-        high(size),
-        low(size),
-    ];
-    bytes(dst, p, there, &src)
+    match part {
+        Some(body) => {
+            let size = body.len() as u16;
+            let entry = [
+                u8::from(kind),
+                high(offset),
+                low(offset),
+                high(size),
+                low(size),
+            ];
+            put(dst, p, &entry)
+        }
+        None => p,
+    }
 }
 
-// The two bytes of the control bits, where they are there.
-fn pair(dst: &mut [u8], p: usize, there: bool, bits: u16) -> usize
-    ensures { Writes dst.old dst.new p result (bytes_if there (high_of bits ∷ low_of bits ∷ [])) }
+// The contents.
+pub(crate) fn contents(dst: &mut [u8], setup: &Setup) -> usize
+    requires { length (bytes_in (given_of setup.now).batch) ≤ most_batch }
+    ensures { Writes dst.old dst.new 0 result (contents_of (given_of setup.now)) }
 {
-    let src = [high(bits), low(bits)];
-    bytes(dst, p, there, &src)
-}
-
-// The number of entries.
-fn number(dst: &mut [u8], has: Parts) -> usize
-    ensures { Writes dst.old dst.new 0 result (count_of has ∷ []) }
-{
-    let src = [count(has)];
-    put(dst, 0, &src)
-}
-
-// The contents, of a batch of so many bytes.
-pub(crate) fn contents(dst: &mut [u8], has: Parts, size: u16) -> usize
-    ensures { Writes dst.old dst.new 0 result (contents_of has size) }
-{
-    let first = number(dst, has);
+    let control = pair(setup);
+    let first = put(dst, 0, &[count(setup)]);
     let second = entry(
         dst,
         first,
-        has.registers,
         Kind::Registers,
-        registers_at(has) as u16,
-        16,
+        registers_at(setup),
+        slice_of(&setup.registers),
     );
     let third = entry(
         dst,
         second,
-        has.control,
         Kind::Control,
-        control_at(has) as u16,
-        2,
+        control_at(setup),
+        slice_of(&control),
     );
-    entry(
-        dst,
-        third,
-        has.batch,
-        Kind::Batch,
-        batch_at(has) as u16,
-        size,
-    )
+    entry(dst, third, Kind::Batch, batch_at(setup), setup.batch)
 }
 
 // The bodies.
-pub(crate) fn bodies(
-    dst: &mut [u8],
-    p: usize,
-    has: Parts,
-    registers: &[u8; 16],
-    control: u16,
-    batch: &[u8],
-) -> usize
-    ensures { Writes dst.old dst.new p result (bodies_if has registers.now (high_of control ∷ low_of control ∷ []) batch.now) }
+pub(crate) fn bodies(dst: &mut [u8], p: usize, setup: &Setup) -> usize
+    ensures { Writes dst.old dst.new p result (bodies_in (given_of setup.now)) }
 {
-    let second = bytes(dst, p, has.registers, registers);
-    let third = pair(dst, second, has.control, control);
-    bytes(dst, third, has.batch, batch)
+    let control = pair(setup);
+    let second = bytes(dst, p, slice_of(&setup.registers));
+    let third = bytes(dst, second, slice_of(&control));
+    bytes(dst, third, setup.batch)
 }

@@ -42,6 +42,7 @@ pub fn count_frame(c: Controller) -> Tally
     let r = c.regs;
     let n = frame_times(r);
     let mut p = Pass::begin(c);
+    // Stays a `while`: a turn passes as many times as are left of a line.
     let mut t: u32 = 0;
     while t < n {
         let k = columns_before(p.scan.column, r.held[0], n - t - 1);

@@ -6,4 +6,4 @@ mod pass;
 mod tally;
 
 pub use frame::count_frame;
-pub use tally::{Tally, greater};
+pub use tally::Tally;

@@ -20,6 +20,7 @@ pub(crate) struct Pass {
 }
 
 // The pins that can come late: display enable and cursor.
+#[tactic(auto, unfolding(crate::specs::private::Pass::pins_of))]
 fn pins(r: Registers, left: Facts, here: Facts) -> Facts
     ensures { result ≡ pins_of r left here }
 {
@@ -33,30 +34,26 @@ fn pins(r: Registers, left: Facts, here: Facts) -> Facts
 pub(crate) fn columns_before(column: u8, end: u8, most: u32) -> u32
     ensures { (result ≤ most) × (result ≤ end - column) × (column + result < 256) }
 {
-    if end < column {
-        return 0;
-    }
-    let k = (end - column) as u32;
-    if k < most { k } else { most }
+    u32::from(end.saturating_sub(column)).min(most)
 }
 
+// How large the numbers may be stays in the clauses: the bound differs from one to the next, and each turn raises it, so no invariant of the
+// struct could keep it.
 impl Pass {
     // Before the first character time.
     pub(crate) fn begin(c: Controller) -> Pass
         ensures { result ≡ pass_of c no_tally }
     {
-        let scan = c.scan;
-        let sync = c.sync;
-        let left = c.left;
         Pass {
-            scan: scan,
-            sync: sync,
-            left: left,
+            scan: c.scan,
+            sync: c.sync,
+            left: c.left,
             tally: Tally::none(),
         }
     }
 
     // One character time, counted as it is left.
+    #[tactic(auto, unfolding(crate::specs::private::Pass::turn_of))]
     pub(crate) fn turn(self, r: Registers) -> Pass
         requires { AtMost 4294967296 self.tally }
         ensures { result ≡ turn_of r self }
@@ -81,8 +78,10 @@ impl Pass {
         requires at_most { AtMost 4294967296 self.tally }
         ensures { result ≡ turn_of r self }
     {
-        let mut next = self.scan;
-        next.column = self.scan.column + 1;
+        let next = Scan {
+            column: self.scan.column + 1,
+            ..self.scan
+        };
         let here = Facts::at(r, self.scan);
         let tally = self.tally.with(
             here.picture,
@@ -91,15 +90,19 @@ impl Pass {
             changed(ma(r, self.scan), ma(r, next)),
         );
         let arrived = self.sync.arrive(r, next);
-        let mut p = self;
-        p.scan = next;
-        p.sync.hsync = arrived.hsync;
-        p.left = here;
-        p.tally = tally;
-        p
+        Pass {
+            scan: next,
+            sync: Sync {
+                hsync: arrived.hsync,
+                ..self.sync
+            },
+            left: here,
+            tally,
+        }
     }
 
-    // k columns of a line one after the other. That the scan moves by its column alone lets the compiler take all else out of the loop.
+    // k columns of a line one after the other. That the scan moves by its column alone lets the compiler take all else out of the loop. The
+    // bounds stay a `requires`: they tie a pass to k.
     pub(crate) fn columns(self, r: Registers, k: u32) -> Pass
         requires k_bound { k ≤ reg r 0 - self.scan.column }
         requires k_bound_2 { self.scan.column + k < 256 }
@@ -107,10 +110,8 @@ impl Pass {
         ensures { result ≡ iterate (turn_of r) k self }
     {
         let mut p = self;
-        let mut j: u32 = 0;
-        while j < k {
+        for _ in 0..k {
             p = p.along(r);
-            j += 1;
         }
         p
     }

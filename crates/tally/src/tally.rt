@@ -1,6 +1,5 @@
 // Seven numbers, and how they grow.
-ghost use Rattle.std.specs.Prelude.{◌≡◌, ◌≤◌, max};
-ghost use Rattle.basics.specs.Bits.{num};
+ghost use Rattle.std.specs.Prelude.{◌≡◌, ◌≤◌};
 ghost use Rattle.tally.specs.Tally.{changed_of, AtMost, no_tally};
 ghost use Rattle.tally.specs.private.Pass.{with_of};
 
@@ -21,27 +20,13 @@ pub struct Tally {
     pub most: u64,
 }
 
-// A yes or no as 1 or 0.
-fn one(yes: bool) -> u64
-    ensures is { result ≡ num yes }
-    ensures most { result ≤ 1 }
-{
-    if yes { 1 } else { 0 }
-}
-
-// The greater of the two.
-pub fn greater(x: u64, y: u64) -> u64
-    ensures { result ≡ max x y }
-{
-    if x < y { y } else { x }
-}
-
 // In how many address lines two addresses differ.
+#[tactic(auto, using(crate::proofs::Summing::few_lines))]
 pub(crate) fn changed(from: u16, to: u16) -> u64
     ensures is { result ≡ changed_of from to }
     ensures most { result ≤ 16 }
 {
-    u16::count_ones(from ^ to) as u64
+    u64::from((from ^ to).count_ones())
 }
 
 impl Tally {
@@ -61,19 +46,20 @@ impl Tally {
     }
 
     // With one time more: whether it is in the picture, the two pins that can come late, the syncs, and the address lines that change.
+    #[tactic(auto, unfolding(crate::specs::private::Pass::with_of))]
     pub(crate) fn with(self, picture: bool, pins: Facts, sync: Sync, lines: u64) -> Tally
         requires at_most { AtMost 4294967296 self }
         requires lines_bound { lines ≤ 16 }
         ensures { result ≡ with_of self picture pins sync lines }
     {
         Tally {
-            picture: self.picture + one(picture),
-            display: self.display + one(pins.picture),
-            cursor: self.cursor + one(pins.cursor),
-            hsync: self.hsync + one(0 < sync.hsync),
-            vsync: self.vsync + one(0 < sync.vsync),
+            picture: self.picture + u64::from(picture),
+            display: self.display + u64::from(pins.picture),
+            cursor: self.cursor + u64::from(pins.cursor),
+            hsync: self.hsync + u64::from(0 < sync.hsync),
+            vsync: self.vsync + u64::from(0 < sync.vsync),
             changed: self.changed + lines,
-            most: greater(self.most, lines),
+            most: self.most.max(lines),
         }
     }
 }

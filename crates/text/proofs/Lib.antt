@@ -1,3 +1,3 @@
 pub mod Hexing
 pub mod Lining
-pub mod Whole
+pub mod Adding

@@ -1,10 +1,11 @@
-// Texts: bytes as two lowercase hex digits each, bytes eight to a line, and how much of a text a program says.
+// Texts: bytes as two lowercase hex digits each, bytes eight to a line, and whether a program says a text.
 #![tactic(auto)]
 
 mod hex;
 mod lines;
+mod owned;
 mod speech;
 
-pub use hex::put_hex;
-pub use lines::{LINE, PER_LINE, put_lines};
+pub use lines::{LINE, PER_LINE};
+pub use owned::Text;
 pub use speech::said;

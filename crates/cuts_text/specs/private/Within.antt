@@ -1,11 +1,10 @@
 -- What the functions of `cuts_text` say to one another.
-use Rattle.std.specs.Prelude.{ℕ, ◌+◌, ◌≤◌, List, ◌≡◌}
-use Rattle.basics.specs.Lay.{Laid}
+use Rattle.std.specs.Prelude.{ℕ, ◌+◌, ◌≤◌, List}
 use Rattle.batch.specs.Fresh.{most_output}
 use Rattle.line.specs.declared.calls.Line.{Line}
 use Rattle.cuts_text.specs.Asked.{call_head}
 use Rattle.cuts_text.specs.declared.asked.Asked.{Asked}
-use Rattle.cuts_text.specs.declared.asked.Asked.TheVariants.{Nothing, Close, Cut}
+use Rattle.cuts_text.specs.declared.asked.Asked.TheVariants.{Close, Cut}
 use Rattle.cuts_text.specs.declared.made.Made.{Made}
 
 -- the longest cut that two bytes can say
@@ -14,12 +13,9 @@ most_long = 65535
 
 -- a call within so many bytes
 abbrev pub Within : Asked → ℕ → Type 0
-Within Nothing n = Unit {0}
 Within Close n = 1 ≤ n
 Within (Cut room long) n = (room ≤ most_output) × (call_head + long ≤ n)
 
--- a call that was made: the line after it, the bytes that said it, and its text laid at the front
-pub record Shown (t u : List ℕ) (r : Made) (line : Line) (used : ℕ) (w : List ℕ) : Type 0 where
-  pub line-is : r.line ≡ line
-  pub used-is : r.used ≡ used
-  pub laid : Laid t u 0 r.long w
+-- a call that was made: the line after it, the bytes that said it, and its text
+abbrev pub shown_as : Line → ℕ → List ℕ → Made
+shown_as line used text = record { line = line; used = used; text = text }

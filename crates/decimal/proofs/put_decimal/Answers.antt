@@ -1,15 +1,10 @@
-use mathlib.Core.Path.{refl}
-use Rattle.decimal.proofs.Digits.{digits-within, digits-part, digits-count}
+use mathlib.Core.Path.{◌∙◌}
+use Rattle.decimal.specs.Decimal.{most_digits}
+use Rattle.decimal.proofs.Digits.{length-decimal}
+use Rattle.text.proofs.Adding.{whole}
 use Rattle.decimal.proofs.put_decimal.Goals as goal
 
-pub slice_bounds-digits-end : goal.slice_bounds-digits-end
-slice_bounds-digits-end c = digits-within _ refl c.lay_digits-count.ensures
-
-pub slice_bounds-put-end : goal.slice_bounds-put-end
-slice_bounds-put-end c = digits-count _ refl c.lay_digits-count.ensures
-
 pub returns : goal.returns
-returns c =
-    let part = digits-part _ refl c.lay_digits-count.ensures in
-    let p = rw part at c.put.ensures in
-    record { place = p.place; laid = p.laid; next = p.next }
+returns g c =
+    let all = whole c.new-digits.ensures c.put_digits.ensures (length-decimal most_digits c.args.n) in
+    rw (c.as_slice.ensures ∙ all) at c.put.ensures.put

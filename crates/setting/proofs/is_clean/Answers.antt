@@ -1,28 +1,13 @@
-use borrow.Author.Rules.{rules}
-use mathlib.Core.Path.{◌≡◌, sym, ap, ◌∙◌}
-use native.Mathlib.Omega.{arith}
-use lib.ListN.{get_or}
+use Rattle.std.proofs.Common.{rules, ℕ, get_or, refl, eqb}
+use Rattle.std.proofs.lemmas.Iterator.{YieldsList-from_range}
+use Rattle.std.proofs.lemmas.Iterator.Search.{all_from_yields_List}
+use Rattle.basics.specs.Count.{count}
 use Rattle.controller.specs.Writes.{kept_of}
-use Rattle.setting.specs.Setting.{bytes}
-use Rattle.setting.proofs.Clean.{keep-on, keep-not, keep-none}
+use Rattle.setting.specs.Setting.{keep_all}
 use Rattle.setting.proofs.is_clean.Goals as goal
 
-pub returns-then-kept-byte-clause-is : goal.returns-then-kept-byte-clause-is
-returns-then-kept-byte-clause-is c =
-    let l = c.loop-k in
-    let given = c.args.given.now in
-    let keeps : c.kept.result ≡ kept_of l.k (get_or given l.k 0) = c.kept.ensures ∙ ap (kept_of l.k) c.byte_at-byte.ensures in
-    keep-not given l.k (omega arith) (λ same. c.if-kept-byte.true (keeps ∙ same ∙ sym c.byte_at-byte.ensures)) l.invariant.1
-
-pub loop-k-preserved : goal.loop-k-preserved
-loop-k-preserved c =
-    let l = c.loop-k in
-    let given = c.args.given.now in
-    let keeps : c.kept.result ≡ kept_of l.k (get_or given l.k 0) = c.kept.ensures ∙ ap (kept_of l.k) c.byte_at-byte.ensures in
-    (search rules, keep-on given l.k (omega arith) (sym keeps ∙ c.if-kept-byte.false ∙ c.byte_at-byte.ensures) l.invariant.1)
-
 pub returns-clause-is : goal.returns-clause-is
+unfolding keep_all count
 returns-clause-is c =
-    let l = c.loop-k in
-    let all : l.k ≡ bytes = omega arith in
-    sym (rw all at l.invariant.1 ∙ keep-none _)
+    let whole = λ (k : ℕ). eqb (kept_of k (get_or c.args.given.now k 0)) (get_or c.args.given.now k 0) in
+    all_from_yields_List whole _ _ _ c.all.ensures.ran (YieldsList-from_range 0 16 16 refl refl) (λ x b q k. search rules)

@@ -1,5 +1,6 @@
 use native.Mathlib.Omega.{arith}
 use Rattle.line.proofs.Accepting.{accept-within}
+use Rattle.text.proofs.Adding.{adds}
 use Rattle.cuts_text.proofs.Making.{accepts}
 use Rattle.cuts_text.proofs.made.accepted.Goals as goal
 
@@ -16,5 +17,5 @@ overflow_cast-called-2 c =
 pub returns : goal.returns
 returns c =
     let a = c.args in
-    accepts a.before a.cut.now a.out.now c.requires.call_text_length_in_bounds c.requires.out_len_bound c.accept-called.ensures.answer c.accept-called.ensures.output
-    c.counts-told.ensures c.put_lines-p.ensures.next c.put_lines-long.ensures.next
+    accepts a.before a.cut.now a.out.now c.new-text.ensures c.requires.out_len_bound c.accept-called.ensures.answer c.accept-called.ensures.output
+    (rw c.from-ending.ensures at c.counts-told.ensures) (adds _ _ _ c.put_lines.ensures.put) (adds _ _ _ c.put_lines-2.ensures.put)

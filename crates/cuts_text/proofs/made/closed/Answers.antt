@@ -1,6 +1,6 @@
+use Rattle.text.proofs.Adding.{adds}
 use Rattle.cuts_text.proofs.Making.{closes}
 use Rattle.cuts_text.proofs.made.closed.Goals as goal
 
 pub returns : goal.returns
-returns c =
-    closes c.args.before c.requires c.close-called.ensures c.counts-told.ensures c.put_lines-long.ensures.next
+returns c = closes c.args.before c.new-text.ensures c.close-called.ensures (rw c.from.ensures at c.counts.ensures) (adds _ _ _ c.put_lines.ensures.put)

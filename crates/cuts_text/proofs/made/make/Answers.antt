@@ -1,9 +1,22 @@
-use native.Mathlib.Omega.{arith}
-use Rattle.cuts_text.proofs.Making.{makes}
+use mathlib.Core.Path.{◌≡◌, ap}
+use Rattle.std.specs.Prelude.{Some, None}
+use Rattle.cuts_text.proofs.Making.{cut_bytes, makes}
 use Rattle.cuts_text.proofs.made.make.Goals as goal
 
-pub returns : goal.returns
-returns c =
-    let a = c.args in
-    let t = makes a.before a.rest.now a.text.now c.called.ensures in
-    record { lent = omega arith; made = t.0; laid = t.1.0; part = t.1.1.0; kept = t.1.1.1.0; within = t.1.1.1.1 }
+pub returns-in_err-first-clause-made : goal.returns-in_err-first-clause-made
+returns-in_err-first-clause-made c =
+    let none : c.first.result ≡ None = c.in_err-first.was in
+    makes c.args.before c.args.rest.now c.first.ensures.is (rw none c.from_residual.ensures)
+
+pub returns-in-Close-clause-made : goal.returns-in-Close-clause-made
+returns-in-Close-clause-made c =
+    let some : c.first.result ≡ Some c.in_ok-first.field-0 = c.in_ok-first.was in
+    makes c.args.before c.args.rest.now c.first.ensures.is (rw (some, c.in-Close.is) (ap Some c.closed.ensures))
+
+pub returns-in-Cut-clause-made : goal.returns-in-Cut-clause-made
+returns-in-Cut-clause-made c =
+    let rest = c.args.rest.now in
+    let some : c.first.result ≡ Some c.in_ok-first.field-0 = c.in_ok-first.was in
+    let within = rw c.in-Cut.is at c.in_ok-first.ensures.within in
+    let bytes = cut_bytes rest c.in-Cut.long within.1 in
+    makes c.args.before rest c.first.ensures.is (rw (some, c.in-Cut.is) (ap Some (rw (c.from-end.ensures, bytes.0, bytes.1) at c.handed.ensures)))

@@ -1,17 +1,19 @@
-use mathlib.Core.Path.{◌∙◌}
+use mathlib.Core.Path.{◌≡◌, refl}
+use mathlib.Core.Logic.{⊎_elim}
 use Rattle.replay.specs.Run.{replay_of, output_of}
+use Rattle.replay.specs.declared.ending.Ending.TheVariants.{NoRoom}
 use Rattle.line.proofs.Calling.{replayed-full, replayed-waits}
 use Rattle.line.proofs.calls.replayed.Goals as goal
 
-pub returns-then-r-eq-NO_ROOM : goal.returns-then-r-eq-NO_ROOM
+pub returns-in-NoRoom : goal.returns-in-NoRoom
 unfolding replay_of output_of
-returns-then-r-eq-NO_ROOM c =
-    let d = replayed-full _ _ _ _ c.replay-r.ensures.answer _ c.replay-r.ensures.output c.if-r-eq-NO_ROOM.true in
-    record { answer = c.told.ensures ∙ d.0; output = d.1 }
+returns-in-NoRoom c =
+    let d = replayed-full _ _ _ _ c.replay-run.ensures.answer _ c.replay-run.ensures.output c.in-NoRoom.is in
+    record { answer = rw c.open-line.ensures d.0; output = d.1 }
 
-pub returns : goal.returns
+pub returns-in-Empty : goal.returns-in-Empty
 unfolding replay_of output_of
-returns c =
-    let held = rw c.unread_rest.ensures.bytes at c.and_bytes-held.ensures in
-    let d = replayed-waits _ _ _ _ c.replay-r.ensures.answer _ c.replay-r.ensures.output c.if-r-eq-NO_ROOM.false _ held in
-    record { answer = c.told-2.ensures ∙ d.0; output = d.1 }
+returns-in-Empty c =
+    let some_room : c.replay-run.result.ending ≡ NoRoom → ⊥ = λ n. ⊎_elim (λ e. cc) (λ e. cc) c.in-Empty.is in
+    let d = replayed-waits _ _ _ _ c.replay-run.ensures.answer _ c.replay-run.ensures.output some_room _ refl in
+    record { answer = rw (c.waiting.ensures, c.open-line.ensures, c.unread_rest.ensures.bytes) d.0; output = d.1 }

@@ -1,48 +1,35 @@
-use mathlib.Core.Path.{◌∙◌}
+use mathlib.Core.Path.{refl, sym, ◌∙◌}
 use native.Mathlib.Omega.{arith}
+use borrow.Author.Tests.{eqb-true, eqb-false}
+use lib.ListN.{length}
 use Rattle.replay.specs.Run.{replay_of, output_of}
 use Rattle.replay.proofs.Replaying.{start, more, ends-empty, ends-short, ends-full}
 use Rattle.replay.proofs.run.replay.Goals as goal
 
-pub loop-taken-init : goal.loop-taken-init
-loop-taken-init c = start _ _ _
+pub loop-sent-init : goal.loop-sent-init
+loop-sent-init c = start _ _ _
 
-pub loop-taken-preserved : goal.loop-taken-preserved
-loop-taken-preserved c =
-    more c.loop-taken.invariant (omega arith) (omega arith) _ c.step_at-stepped.ensures _ c.write.ensures
+pub loop-sent-preserved : goal.loop-sent-preserved
+loop-sent-preserved c =
+    let sent = c.in-Some.ensures.cases in
+    more c.loop-sent.invariant _ sent.0 (omega arith) (omega arith) _ c.from.ensures _ c.step-stepped.ensures _ c.write.ensures _ sent.1
 
-pub returns-clause-answer : goal.returns-clause-answer
+pub returns-then-out-answers-lt-ANSWER : goal.returns-then-out-answers-lt-ANSWER
 unfolding replay_of output_of
-returns-clause-answer c =
-    let e = ends-empty c.loop-taken.invariant (omega arith) in
-    c.ended-2.ensures ∙ e.0
+returns-then-out-answers-lt-ANSWER c =
+    let sent = c.in-Some.ensures.cases in
+    let e = ends-full c.loop-sent.invariant _ sent.0 (omega arith) (omega arith) in
+    record { answer = c.ended.ensures ∙ e.0; output = e.1; batch = refl }
 
-pub returns-clause-output : goal.returns-clause-output
+pub returns-then-is_empty : goal.returns-then-is_empty
 unfolding replay_of output_of
-returns-clause-output c =
-    let e = ends-empty c.loop-taken.invariant (omega arith) in
-    e.1
+returns-then-is_empty c =
+    let e = ends-empty c.loop-sent.invariant (eqb-true _ 0 (sym c.is_empty.ensures ∙ c.if-is_empty.true)) in
+    record { answer = c.ended-then-is_empty.ensures ∙ e.0; output = e.1; batch = refl }
 
-pub returns-then-batch-taken-lt-RECORD-clause-answer : goal.returns-then-batch-taken-lt-RECORD-clause-answer
+pub returns-else-is_empty : goal.returns-else-is_empty
 unfolding replay_of output_of
-returns-then-batch-taken-lt-RECORD-clause-answer c =
-    let e = ends-short c.loop-taken.invariant (omega arith) (omega arith) in
-    c.ended.ensures ∙ e.0
-
-pub returns-then-batch-taken-lt-RECORD-clause-output : goal.returns-then-batch-taken-lt-RECORD-clause-output
-unfolding replay_of output_of
-returns-then-batch-taken-lt-RECORD-clause-output c =
-    let e = ends-short c.loop-taken.invariant (omega arith) (omega arith) in
-    e.1
-
-pub returns-then-out-answers-lt-ANSWER-clause-answer : goal.returns-then-out-answers-lt-ANSWER-clause-answer
-unfolding replay_of output_of
-returns-then-out-answers-lt-ANSWER-clause-answer c =
-    let e = ends-full c.loop-taken.invariant (omega arith) (omega arith) in
-    c.ended-then-out-answers-lt-ANSWER.ensures ∙ e.0
-
-pub returns-then-out-answers-lt-ANSWER-clause-output : goal.returns-then-out-answers-lt-ANSWER-clause-output
-unfolding replay_of output_of
-returns-then-out-answers-lt-ANSWER-clause-output c =
-    let e = ends-full c.loop-taken.invariant (omega arith) (omega arith) in
-    e.1
+returns-else-is_empty c =
+    let some = eqb-false (length c.loop-sent.rest.now) 0 (sym c.is_empty.ensures ∙ c.if-is_empty.false) in
+    let e = ends-short c.loop-sent.invariant (omega arith) c.in_default.ensures.cases in
+    record { answer = c.ended-else-is_empty.ensures ∙ e.0; output = e.1; batch = refl }

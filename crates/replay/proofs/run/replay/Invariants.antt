@@ -1,10 +1,9 @@
-use Prim.Native.Nat.{◌-◌}
 use lib.ListN.{length}
 use Rattle.replay.proofs.Replaying.{Reached}
 use Rattle.replay.proofs.run.replay.Given as goal
 
-abbrev pub invariant-loop-taken : goal.invariant-loop-taken
-invariant-loop-taken l = Reached l.batch l.initial.out l.initial.bench l.out l.bench l.taken l.answers
+abbrev pub invariant-loop-sent : goal.invariant-loop-sent
+invariant-loop-sent l = Reached l.fn.batch l.initial.out l.initial.bench l.out l.bench l.rest l.answers
 
-abbrev pub decreases-loop-taken : goal.decreases-loop-taken
-decreases-loop-taken l = length l.batch - l.taken
+abbrev pub decreases-loop-sent : goal.decreases-loop-sent
+decreases-loop-sent l = length l.rest

@@ -1,31 +1,29 @@
-use mathlib.Core.Path.{refl, sym, ◌∙◌}
-use native.Mathlib.Omega.{arith}
 use Prim.Native.Nat.{◌+◌, ◌*◌}
+use mathlib.Core.Path.{◌∙◌}
+use native.Mathlib.Omega.{arith}
 use lib.ListN.{replicate}
 use Rattle.report.specs.Report.{most, row}
-use Rattle.text.proofs.Whole.{whole-text}
 use Rattle.report.proofs.Reporting.{done}
-use Rattle.report_text.proofs.Telling.{text-has-room, text-of-places, text-of-refusal}
-use borrow.Author.Rules.{rules}
+use Rattle.text.proofs.Adding.{adds, whole}
+use Rattle.report_text.proofs.Telling.{given_number, refused-by-number, text-has-room, text-of-places, text-of-refusal}
 use Rattle.report_text.proofs.whole.tell.Goals as goal
 
-pub table-requires : goal.table-requires
-table-requires c =
+pub put_table-requires : goal.put_table-requires
+put_table-requires c =
     let given = c.args.input.now in
-    let d = done given (replicate (row * (most + 1)) 0) (sym c.report.ensures.said ∙ c.if-report-eq0.true) in
+    let d = done given (replicate (row * (most + 1)) 0) (given_number given _ c.report.ensures.said c.in-Ok.is) in
     omega (arith, d.room, c.report.auto.out)
 
-pub returns-then-report-eq0 : goal.returns-then-report-eq0
-returns-then-report-eq0 c =
+pub returns-in-Ok-clause-text : goal.returns-in-Ok-clause-text
+returns-in-Ok-clause-text c =
     let said = c.report.ensures in
     let given = c.args.input.now in
-    let told = whole-text {i = given} (omega (arith, text-has-room given)) (rw (text-of-places given _ _ (sym said.said ∙ c.if-report-eq0.true) said.laid) at c.table.ensures) in
-    record { lent = search rules; long = told.0; laid = told.1.0; part = told.1.1.0; kept = refl }
+    let told = text-of-places given _ _ (given_number given _ said.said c.in-Ok.is) said.laid in
+    whole c.new-text.ensures (rw told at c.put_table.ensures) (text-has-room given)
 
-pub returns : goal.returns
-returns c =
+pub returns-in-Err-clause-text : goal.returns-in-Err-clause-text
+returns-in-Err-clause-text c =
     let given = c.args.input.now in
-    let told =
-    whole-text {i = given} (omega (arith, text-has-room given))
-    (rw (← text-of-refusal given (replicate (row * (most + 1)) 0) (omega arith) (λ e. c.if-report-eq0.false (c.report.ensures.said ∙ e))) c.put.ensures.next) in
-    record { lent = search rules; long = told.0; laid = told.1.0; part = told.1.1.0; kept = refl }
+    let out = replicate (row * (most + 1)) 0 in
+    let refused = text-of-refusal given out (omega arith) (refused-by-number given out _ c.report.ensures.said c.in-Err.is) in
+    whole c.new-text.ensures (adds _ _ _ c.put.ensures.put) (omega arith) ∙ refused

@@ -1,45 +1,29 @@
-use Prim.Native.Nat.{◌+◌, ◌-◌}
-use mathlib.Core.Path.{◌≡◌}
+use Prim.Native.Nat.{◌+◌}
 use native.Mathlib.Omega.{arith}
-use lib.ListN.{length, take, drop, length-drop}
-use lib.Seq.{take_all}
+use lib.ListN.{length}
 use borrow.Author.Tests.{lt-ltb, le-ltb}
 use Rattle.basics.specs.Choice.{when◌then◌else◌}
-use Rattle.basics.specs.Lay.{Writes}
 use Rattle.batch.specs.Fresh.{most_bytes, most_output}
-use Rattle.text.proofs.Whole.{whole-text}
 use Rattle.rooms_text.specs.Rooms.{head_bytes, room_text_of}
-use Rattle.rooms_text.proofs.Shown.{front, room-text-has-room}
+use Rattle.rooms_text.proofs.Shown.{behind-head, length_behind, front}
 use Rattle.rooms_text.proofs.rooms.room.Goals as goal
 
-pub returns-then-input-lt-HEAD : goal.returns-then-input-lt-HEAD
+pub returns-in_default-clause-text : goal.returns-in_default-clause-text
 unfolding room_text_of when◌then◌else◌
-returns-then-input-lt-HEAD c =
-    let input = c.args.input.now in
-    let w : Writes c.args.text.now c.put.new.dst 0 c.put.result (room_text_of input) =
-    rw (lt-ltb _ head_bytes c.if-input-lt-HEAD.true) c.put.ensures.next in
-    let t = whole-text {i = input} (omega (arith, room-text-has-room input)) w in
-    record { lent = omega arith; long = t.0; laid = t.1.0; part = t.1.1.0; kept = t.1.1.1 }
+returns-in_default-clause-text c = rw (lt-ltb (length c.args.input.now) head_bytes (omega (arith, c.in_default.len_below))) c.of.ensures.put
 
-pub returns-then-input-gt-INPUT : goal.returns-then-input-gt-INPUT
+pub returns-then-batch-gt-MOST-clause-text : goal.returns-then-batch-gt-MOST-clause-text
 unfolding room_text_of when◌then◌else◌
-returns-then-input-gt-INPUT c =
+returns-then-batch-gt-MOST-clause-text c =
     let input = c.args.input.now in
-    let long = c.put-then-input-gt-INPUT in
-    let w : Writes c.args.text.now long.new.dst 0 long.result (room_text_of input) =
-    rw (le-ltb _ head_bytes c.if-input-lt-HEAD.false, lt-ltb (head_bytes + most_bytes) _ c.if-input-gt-INPUT.true) long.ensures.next in
-    let t = whole-text {i = input} (omega (arith, room-text-has-room input)) w in
-    record { lent = omega arith; long = t.0; laid = t.1.0; part = t.1.1.0; kept = t.1.1.1 }
+    let long = rw length_behind at c.if-batch-gt-MOST.true in
+    rw (le-ltb (length input) head_bytes c.in-len2-up.len_at_least, lt-ltb (head_bytes + most_bytes) (length input) (omega arith)) c.of-then-batch-gt-MOST.ensures.put
 
-pub returns : goal.returns
+pub returns-clause-text : goal.returns-clause-text
 unfolding room_text_of when◌then◌else◌
-returns c =
-    let r = c.room_of-room in
+returns-clause-text c =
     let input = c.args.input.now in
-    let rest : take (length input - head_bytes) (drop head_bytes input) ≡ drop head_bytes input =
-    take_all (length input - head_bytes) (drop head_bytes input) (simp length-drop (omega arith)) in
-    let w : Writes c.args.text.now c.shown.new.text 0 c.shown.result (room_text_of input) =
-    rw (le-ltb _ head_bytes c.if-input-lt-HEAD.false, le-ltb (head_bytes + most_bytes) _ c.if-input-gt-INPUT.false)
-    (rw (rest, front r.result most_output 0xA5 r.ensures.most, r.ensures.is) at c.shown.ensures) in
-    let t = whole-text {i = input} (omega (arith, room-text-has-room input)) w in
-    record { lent = omega arith; long = t.0; laid = t.1.0; part = t.1.1.0; kept = t.1.1.1 }
+    let room = c.room_of in
+    let few = rw length_behind at c.if-batch-gt-MOST.false in
+    rw (le-ltb (length input) head_bytes c.in-len2-up.len_at_least, le-ltb (head_bytes + most_bytes) (length input) (omega (arith, c.in-len2-up.len_at_least)))
+    (rw (behind-head input, front room.result most_output 0xA5 room.ensures.most, room.ensures.is) at c.shown.ensures)

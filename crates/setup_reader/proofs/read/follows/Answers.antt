@@ -1,7 +1,6 @@
-use mathlib.Core.Path.{refl}
-use Rattle.setup_reader.specs.Judged.{follows_of}
+use mathlib.Core.Path.{◌∙◌}
+use Rattle.setup_reader.proofs.Ranks.{in_order}
 use Rattle.setup_reader.proofs.read.follows.Goals as goal
 
 pub returns : goal.returns
-unfolding follows_of
-returns c = refl
+returns c = c.lt.ensures ∙ in_order c.args.last c.args.kind

@@ -7,6 +7,6 @@ pub returns-then-wanted-clause-much : goal.returns-then-wanted-clause-much
 unfolding said_of
 returns-then-wanted-clause-much c = if_yes _ _ _ _ c.if-wanted.true refl
 
-pub returns-clause-much : goal.returns-clause-much
+pub returns-else-wanted-clause-much : goal.returns-else-wanted-clause-much
 unfolding said_of
-returns-clause-much c = if_no _ _ _ _ c.if-wanted.false refl
+returns-else-wanted-clause-much c = if_no _ _ _ _ c.if-wanted.false refl

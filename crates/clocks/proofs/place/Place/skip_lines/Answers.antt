@@ -4,5 +4,5 @@ use Rattle.clocks.proofs.place.Place.skip_lines.Goals as goal
 pub returns-then-remaining-times : goal.returns-then-remaining-times
 returns-then-remaining-times c = search reached-none
 
-pub returns : goal.returns
-returns c = search reached-lines
+pub returns-else-remaining-times : goal.returns-else-remaining-times
+returns-else-remaining-times c = search reached-lines

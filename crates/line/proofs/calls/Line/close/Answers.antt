@@ -7,4 +7,4 @@ returns-then-self c = c.unmoved.ensures ∙ closed-close c.args.self c.if-self.t
 
 pub returns : goal.returns
 returns c =
-    rw c.number.ensures at c.unmoved-2.ensures ∙ open-close c.args.self c.if-self.false
+    rw c.ending.ensures at c.unmoved-2.ensures ∙ open-close c.args.self c.if-self.false

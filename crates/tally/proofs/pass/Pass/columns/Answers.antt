@@ -1,4 +1,3 @@
-use borrow.Author.Rules.{rules}
 use Prim.Native.Nat.{◌+◌}
 use mathlib.Core.Path.{◌≡◌, ap, ◌∙◌}
 use native.Mathlib.Numerals.{add-one}
@@ -10,33 +9,33 @@ use Rattle.tally.specs.declared.pass.Pass.{Pass}
 use Rattle.tally.proofs.Passing.{turns-most, turns_along, most-more}
 use Rattle.tally.proofs.pass.Pass.columns.Goals as goal
 
-pub loop-j-init : goal.loop-j-init
-loop-j-init c = (search rules, iterate-none (turn_of _) _)
+pub loop-init : goal.loop-init
+loop-init c = iterate-none (turn_of _) _
 
 pub along-p-requires-clause-fact : goal.along-p-requires-clause-fact
 along-p-requires-clause-fact c =
-    let l = c.loop-j in
+    let l = c.loop in
     let a = c.args in
-    let column : l.p.scan.column ≡ a.self.scan.column + l.j =
-    ap (λ (p : Pass). p.scan.column) l.invariant.1
-    ∙ turns_along a.r a.self l.j (omega (arith, c.requires.k_bound)) (omega (arith, c.requires.k_bound_2)) in
+    let column : l.p.scan.column ≡ a.self.scan.column + l.counter =
+    ap (λ (p : Pass). p.scan.column) l.invariant
+    ∙ turns_along a.r a.self l.counter (omega (arith, c.requires.k_bound)) (omega (arith, c.requires.k_bound_2)) in
     λ e. omega (arith, c.requires.k_bound)
 
 pub along-p-requires-clause-column_bound : goal.along-p-requires-clause-column_bound
 along-p-requires-clause-column_bound c =
-    let l = c.loop-j in
+    let l = c.loop in
     let a = c.args in
-    let column : l.p.scan.column ≡ a.self.scan.column + l.j =
-    ap (λ (p : Pass). p.scan.column) l.invariant.1
-    ∙ turns_along a.r a.self l.j (omega (arith, c.requires.k_bound)) (omega (arith, c.requires.k_bound_2)) in
+    let column : l.p.scan.column ≡ a.self.scan.column + l.counter =
+    ap (λ (p : Pass). p.scan.column) l.invariant
+    ∙ turns_along a.r a.self l.counter (omega (arith, c.requires.k_bound)) (omega (arith, c.requires.k_bound_2)) in
     omega (arith, c.requires.k_bound_2)
 
 pub along-p-requires-clause-at_most : goal.along-p-requires-clause-at_most
 along-p-requires-clause-at_most c =
-    let l = c.loop-j in
+    let l = c.loop in
     let a = c.args in
-    rw l.invariant.1 (most-more _ 4294967296 _ (omega (arith, c.requires.k_bound_2)) (turns-most a.r 4294963200 a.self c.requires.at_most l.j))
+    rw l.invariant (most-more _ 4294967296 _ (omega (arith, c.requires.k_bound_2)) (turns-most a.r 4294963200 a.self c.requires.at_most l.counter))
 
-pub loop-j-preserved : goal.loop-j-preserved
+pub loop-preserved : goal.loop-preserved
 unfolding iterate
-loop-j-preserved c = (search rules, rw add-one (c.along-p.ensures ∙ ap (turn_of _) c.loop-j.invariant.1))
+loop-preserved c = rw add-one (c.along-p.ensures ∙ ap (turn_of _) c.loop.invariant)
