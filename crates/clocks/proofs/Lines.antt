@@ -4,7 +4,7 @@ use mathlib.Core.Path.{◌≡◌, refl, sym, ap, ap₂, ◌∙◌}
 use mathlib.Core.Bool.{false}
 use mathlib.Core.Logic.{⊎_elim}
 use native.Mathlib.Omega.{arith}
-use native.Mathlib.Nat.{suc-mul, zero-mul, eq-zero-or-pos}
+use native.Mathlib.Nat.{suc-mul, zero-mul, eq-zero-or-pos, mul-le-mul}
 use borrow.Author.Tests.{eq-eqb, ne_eqb, lt-ltb, le-ltb}
 use Rattle.basics.specs.Choice.{when◌then◌else◌}
 use Rattle.basics.specs.Iterate.{iterate}
@@ -115,3 +115,10 @@ lines-at-once r p (suc m) w k =
     (ap (iterate line (suc m)) (sym (no_line r p))
     ∙ iterate-run line (lines_on r p) (suc m)
     (λ j l. one_line r p (k.first (omega arith)) (k.plain (omega arith)) w j (k.lines.clear j l) (omega (arith, k.lines.below))))
+
+pub line-times-lt : (m end : ℕ) → m < 256 → end < 256 → m * (end + 1) < 65536
+line-times-lt m end p q = let l : m * (end + 1) ≤ 255 * 256 = mul-le-mul {n₂ = 255} {m₂ = 256} (omega arith) (omega arith) in omega arith
+
+-- one less than what a callee gave
+pub less_one : (z x y : ℕ) → z ≡ x - 1 → x ≡ y → z ≡ y - 1
+less_one z x y e f = rw (← f) e
