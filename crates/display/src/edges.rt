@@ -3,7 +3,8 @@ ghost use Rattle.std.specs.Prelude.{◌≡◌};
 ghost use Rattle.display.specs.Edges.{fall_of, preload_of, with_b0};
 
 use crate::counter::Display;
-use crate::modes::{Mode, Top};
+use crate::modes::Mode;
+use basics::number;
 
 impl Display {
     // HS falls: B1 up to the top bit are cleared, and only that bit's own fall counts onward.
@@ -13,7 +14,7 @@ impl Display {
     {
         let b = self.b;
         match mode.top {
-            Some(Top::B4) => {
+            4 => {
                 self.b = b / 32 * 32 + b % 2;
                 if b / 16 % 2 == 1 {
                     self.count_y(mode)
@@ -21,7 +22,7 @@ impl Display {
                     self
                 }
             }
-            Some(Top::B3) => {
+            3 => {
                 self.b = b / 16 * 16 + b % 2;
                 if b / 8 % 2 == 1 {
                     self.count_x(mode)
@@ -29,7 +30,7 @@ impl Display {
                     self
                 }
             }
-            None => self,
+            _ => self,
         }
     }
 
@@ -50,7 +51,7 @@ impl Display {
     pub fn with_b0(mut self, da0: bool) -> Display
         ensures { result ≡ with_b0 da0 self }
     {
-        self.b = self.b / 2 * 2 + u16::from(da0);
+        self.b = self.b / 2 * 2 + u16::from(number(da0));
         self
     }
 }

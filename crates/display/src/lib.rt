@@ -7,4 +7,4 @@ mod edges;
 mod modes;
 
 pub use counter::Display;
-pub use modes::{Mode, Top};
+pub use modes::Mode;

@@ -2,20 +2,13 @@
 ghost use Rattle.std.specs.Prelude.{◌≡◌};
 ghost use Rattle.display.specs.Modes.{mode_at};
 
-// The highest bit of the display address that a fall of HS clears.
-#[derive(Clone, Copy)]
-pub enum Top {
-    B3,
-    B4,
-}
-
-// One mode: at x falls of B3 bit B4 flips, at y falls of B4 the address above it moves on, and a fall of HS clears up to bit top, or
-// clears nothing.
+// One mode: at x falls of B3 bit B4 flips, at y falls of B4 the address above it moves on, and a fall of HS clears up to bit top.
+// The top stays a number: the calls take any, and one that is neither 3 nor 4 clears nothing.
 #[derive(Clone, Copy)]
 pub struct Mode {
     pub x: u8,
     pub y: u8,
-    pub top: Option<Top>,
+    pub top: u8,
 }
 
 // X, Y and the top bit cleared of each mode, by V2 V1 V0. A top bit of 0 stands for none.
@@ -37,11 +30,6 @@ impl Mode {
         ensures { result ≡ mode_at v }
     {
         let [x, y, top] = MODES[usize::from(v % 8)];
-        let top = match top {
-            4 => Some(Top::B4),
-            3 => Some(Top::B3),
-            _ => None,
-        };
         Mode { x, y, top }
     }
 }
