@@ -5,6 +5,7 @@ ghost use Rattle.controller.specs.Bytes.{time_bytes_of};
 ghost use Rattle.alone.specs.Bodies.{read_body_of, strike_body_of};
 
 use answer::Answer;
+use basics::{high, low, number};
 use controller::{Outputs, Reading};
 use pen::Strike;
 
@@ -12,7 +13,7 @@ use pen::Strike;
 pub(crate) fn read_answer(kind: u8, r: Reading) -> Answer
     ensures { result ≡ done_of kind (read_body_of r) }
 {
-    Answer::done(kind, [u8::from(r.driven), r.value, 0, 0, 0, 0])
+    Answer::done(kind, [number(r.driven), r.value, 0, 0, 0, 0])
 }
 
 pub(crate) fn time_answer(kind: u8, o: Outputs) -> Answer
@@ -26,6 +27,8 @@ pub(crate) fn time_answer(kind: u8, o: Outputs) -> Answer
 pub(crate) fn strike_answer(kind: u8, s: Strike) -> Answer
     ensures { result ≡ done_of kind (strike_body_of s) }
 {
-    let [high, low] = s.latch.to_be_bytes();
-    Answer::done(kind, [high, low, u8::from(s.inside), 0, 0, 0])
+    Answer::done(
+        kind,
+        [high(s.latch), low(s.latch), number(s.inside), 0, 0, 0],
+    )
 }

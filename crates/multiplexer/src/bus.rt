@@ -3,6 +3,7 @@ ghost use Rattle.std.specs.Prelude.{◌≡◌};
 ghost use Rattle.multiplexer.specs.Bus.{is_ram_of, select_of, is_slow_of, ticks_of, is_barred_of, ram_cell_of, flags_of, told_cell_of, cycle_of};
 
 use crate::cells::{MemoryCell, cell_at, no_cell, routed};
+use basics::number;
 use control::Control;
 
 // The selects of the $FF00 block, 32 addresses each.
@@ -26,9 +27,9 @@ impl Cycle {
     pub fn flags(self) -> u8
         ensures { result ≡ flags_of self }
     {
-        let ram = u8::from(self.cell.is_some());
-        let barred = u8::from(self.barred);
-        let write = u8::from(self.control_write);
+        let ram = number(self.cell.is_some());
+        let barred = number(self.barred);
+        let write = number(self.control_write);
         ram + 2 * barred + 4 * write
     }
 

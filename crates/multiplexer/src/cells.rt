@@ -3,6 +3,7 @@ ghost use Rattle.std.specs.Prelude.{◌≡◌};
 ghost use Rattle.multiplexer.specs.private.Side.{Side};
 ghost use Rattle.multiplexer.specs.Cells.{side_of, no_cell, cell_of, routed_of};
 
+use basics::number;
 use control::Control;
 
 // A place in the memory chips.
@@ -57,5 +58,5 @@ pub(crate) fn routed(control: Control, address: u16) -> u16
     if control.ty() {
         return address;
     }
-    u16::from(control.p()) * 0x8000 + address % 0x8000
+    u16::from(number(control.p())) * 0x8000 + address % 0x8000
 }

@@ -1,11 +1,10 @@
 -- The lines of the table that a controller alone can meet, the records that read, reset the controller and locate, and the two cases of a
 -- checked event. Assumes nothing.
-use Prim.Native.Nat.{ℕ, ◌+◌, ◌*◌}
+use Prim.Native.Nat.{ℕ}
 use mathlib.Core.Path.{◌≡◌, refl}
 use mathlib.Core.Bool.{Bool, true, false, ◌&&◌}
 use Rattle.std.specs.Prelude.{Result, Ok, Err, ok_or}
 use Rattle.std.specs.Bool.{then_some}
-use native.Mathlib.Omega.{arith}
 use lib.Dec.{eqb, leb}
 use Rattle.basics.specs.Bits.{num, word_of}
 use Rattle.basics.specs.Choice.{when◌then◌else◌}
@@ -14,10 +13,6 @@ use Rattle.record.specs.declared.event.Event.{Event}
 use Rattle.record.specs.declared.event.Event.TheVariants.{Write, Read, Clocks, Strike, Reset, Locate}
 use Rattle.record.specs.declared.kinds.Refusal.{Refusal}
 use Rattle.record.specs.declared.kinds.Refusal.TheVariants.{Field}
-
--- a number by its two bytes, the high one first
-pub by-word : {n : ℕ} (hi lo : ℕ) → n ≡ hi * 256 + lo → n ≡ word_of hi lo
-by-word hi lo e = omega arith
 
 -- what is there if the fields are allowed, or the refusal of a field
 pub by-fields : {r : Result Event Refusal} (fields : Bool) (e : Event) → r ≡ ok_or (then_some fields e) Field → r ≡ checked_of fields e

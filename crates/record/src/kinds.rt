@@ -4,6 +4,7 @@ ghost use Rattle.record.specs.Decode.{checked_of, decode_of, number_of};
 
 use crate::event::Event;
 use crate::sent::Record;
+use basics::word;
 
 // Why a record is no event: its kind is none, or one of its fields is not allowed.
 #[derive(Clone, Copy, PartialEq, Eq)]
@@ -47,7 +48,7 @@ pub fn decode(sent: Record) -> Result<Event, Refusal>
         lo,
         value,
     } = sent;
-    let n = u16::from_be_bytes([hi, lo]);
+    let n = word(hi, lo);
     let address = n;
     let up = lo == 1;
     let set = value == 1;

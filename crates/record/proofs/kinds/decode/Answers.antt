@@ -1,6 +1,5 @@
 use Rattle.basics.specs.Choice.{when◌then◌else◌}
 use Rattle.basics.proofs.Cases.{cases}
-use Rattle.record.proofs.Lines.{by-word}
 use Rattle.record.specs.Decode.{looked_up, decode_of}
 use Rattle.record.proofs.kinds.decode.Goals as goal
 
@@ -14,7 +13,7 @@ returns-in-2 c = rw c.in-2.is c.checked-in-2.ensures
 
 pub returns-in-3 : goal.returns-in-3
 unfolding decode_of looked_up when◌then◌else◌
-returns-in-3 c = rw c.in-3.is (rw (by-word _ _ c.from_be_bytes-n.ensures) at c.checked-in-3.ensures)
+returns-in-3 c = rw c.in-3.is (rw c.word-n.ensures at c.checked-in-3.ensures)
 
 pub returns-in-4 : goal.returns-in-4
 unfolding decode_of looked_up when◌then◌else◌
@@ -26,11 +25,11 @@ returns-in-5 c = rw c.in-5.is c.checked-in-5.ensures
 
 pub returns-in-6 : goal.returns-in-6
 unfolding decode_of looked_up when◌then◌else◌
-returns-in-6 c = rw c.in-6.is (rw (by-word _ _ c.from_be_bytes-n.ensures) at c.checked-in-6.ensures)
+returns-in-6 c = rw c.in-6.is (rw c.word-n.ensures at c.checked-in-6.ensures)
 
 pub returns-in-7 : goal.returns-in-7
 unfolding decode_of looked_up when◌then◌else◌
-returns-in-7 c = rw c.in-7.is (rw (by-word _ _ c.from_be_bytes-n.ensures) at c.checked-in-7.ensures)
+returns-in-7 c = rw c.in-7.is (rw c.word-n.ensures at c.checked-in-7.ensures)
 
 pub returns-in-8 : goal.returns-in-8
 unfolding decode_of looked_up when◌then◌else◌
