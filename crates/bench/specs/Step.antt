@@ -14,6 +14,7 @@ use Rattle.record.specs.declared.kinds.Refusal.{Refusal}
 use Rattle.alone.specs.Events as alone
 use Rattle.alone.specs.declared.events.Told.{Told}
 use Rattle.bodies.specs.Bodies.{bus_body_of, shown_body_of, levels_body_of, located_answer_of}
+use Rattle.bodies.specs.Told.{told_cycle_of, told_levels_of}
 use Rattle.bench.specs.declared.step.Bench.{Bench}
 use Rattle.bench.specs.declared.step.Stepped.{Stepped}
 
@@ -34,7 +35,8 @@ on_reset b kind multiplexer =
 -- kind 6: the cycle as it was judged, and the multiplexer after its write
 unfoldable pub on_cycle : Bench → ℕ → ℕ → Bool → Stepped
 on_cycle b kind address read =
-    with_multiplexer b (bus_of b.multiplexer address read).multiplexer (done_of kind (bus_body_of (bus_of b.multiplexer address read).cycle))
+    with_multiplexer b (bus_of b.multiplexer address read).multiplexer
+    (done_of kind (bus_body_of (told_cycle_of (bus_of b.multiplexer address read).cycle)))
 
 -- kind 7: what the display shows after its fetches
 unfoldable pub on_fetches : Bench → ℕ → ℕ → Stepped
@@ -44,7 +46,8 @@ on_fetches b kind n =
 -- kind 8: the edge that the levels made, and the refresh at it
 unfoldable pub on_levels : Bench → ℕ → Bool → Bool → Stepped
 on_levels b kind hs da0 =
-    with_multiplexer b (levels_of b.multiplexer hs da0).multiplexer (done_of kind (levels_body_of (levels_of b.multiplexer hs da0)))
+    with_multiplexer b (levels_of b.multiplexer hs da0).multiplexer
+    (done_of kind (levels_body_of (told_levels_of (levels_of b.multiplexer hs da0))))
 
 -- kind 9: it asks, and moves neither chip
 unfoldable pub on_locate : Bench → ℕ → Stepped

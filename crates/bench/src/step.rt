@@ -5,7 +5,7 @@ ghost use Rattle.bench.specs.Step.{with_controller, with_multiplexer, on_reset, 
 
 use alone::Told;
 use answer::Answer;
-use bodies::{bus_answer, levels_answer, located_answer, shown_answer};
+use bodies::{ToldCycle, ToldLevels, bus_answer, levels_answer, located_answer, shown_answer};
 use controller::Controller;
 use locator::locate;
 use multiplexer::Multiplexer;
@@ -73,7 +73,10 @@ impl Bench {
         ensures { result ≡ on_cycle self kind address read }
     {
         let bused = self.multiplexer.bus(address, read);
-        self.with_multiplexer(bused.multiplexer, bus_answer(kind, bused.cycle))
+        self.with_multiplexer(
+            bused.multiplexer,
+            bus_answer(kind, ToldCycle::from(bused.cycle)),
+        )
     }
 
     #[tactic(auto, unfolding(crate::specs::Step::on_fetches))]
@@ -89,7 +92,10 @@ impl Bench {
         ensures { result ≡ on_levels self kind hs da0 }
     {
         let levelled = self.multiplexer.levels(hs, da0);
-        self.with_multiplexer(levelled.multiplexer, levels_answer(kind, levelled))
+        self.with_multiplexer(
+            levelled.multiplexer,
+            levels_answer(kind, ToldLevels::from(levelled)),
+        )
     }
 
     #[tactic(auto, unfolding(crate::specs::Step::on_locate))]

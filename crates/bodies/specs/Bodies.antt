@@ -7,23 +7,21 @@ use Rattle.answer.specs.declared.Answer.{Answer}
 use Rattle.locator.specs.Locate.{refusal_of, cell_of}
 use Rattle.locator.specs.declared.cells.Cell.{Cell}
 use Rattle.locator.specs.declared.answer.Unlocated.{Unlocated}
-use Rattle.multiplexer.specs.Bus.{flags_of, told_cell_of}
-use Rattle.multiplexer.specs.Edge.{told_edge_of}
-use Rattle.multiplexer.specs.declared.bus.Cycle.{Cycle}
 use Rattle.multiplexer.specs.declared.chip.Shown.{Shown}
-use Rattle.multiplexer.specs.declared.chip.Levelled.{Levelled}
+use Rattle.bodies.specs.declared.told.ToldCycle.{ToldCycle}
+use Rattle.bodies.specs.declared.told.ToldLevels.{ToldLevels}
 
 -- kind 6: select, ticks, flags and the cell
-unfoldable pub bus_body_of : Cycle → List ℕ
-bus_body_of c = c.select ∷ c.ticks ∷ flags_of c ∷ (told_cell_of c).bank ∷ (told_cell_of c).row ∷ (told_cell_of c).column ∷ []
+unfoldable pub bus_body_of : ToldCycle → List ℕ
+bus_body_of c = c.select ∷ c.ticks ∷ c.flags ∷ c.cell.bank ∷ c.cell.row ∷ c.cell.column ∷ []
 
 -- kind 7: the display address by its two bytes, its cell, and whether the display has access to the RAM
 unfoldable pub shown_body_of : Shown → List ℕ
 shown_body_of s = high_of s.address ∷ low_of s.address ∷ s.cell.bank ∷ s.cell.row ∷ s.cell.column ∷ num s.access ∷ []
 
 -- kind 8: the edge, the first row refreshed and how many
-unfoldable pub levels_body_of : Levelled → List ℕ
-levels_body_of l = told_edge_of l.edge ∷ l.rows.first ∷ l.rows.count ∷ []
+unfoldable pub levels_body_of : ToldLevels → List ℕ
+levels_body_of l = l.edge ∷ l.first ∷ l.count ∷ []
 
 -- kind 9: row and column of the cell; zero where there is none
 unfoldable pub located_body_of : Result Cell Unlocated → List ℕ

@@ -5,24 +5,27 @@ ghost use Rattle.std.specs.Prelude.{◌≡◌};
 ghost use Rattle.answer.specs.Answer.{done_of};
 ghost use Rattle.bodies.specs.Bodies.{bus_body_of, shown_body_of, levels_body_of, located_answer_of};
 
+mod told;
+
 use answer::Answer;
+use basics::{high, low, number};
 use locator::{Cell, Unlocated};
-use multiplexer::{Cycle, Levelled, Shown};
+use multiplexer::Shown;
+pub use told::{ToldCycle, ToldLevels};
 
 #[tactic(auto, unfolding(crate::specs::Bodies::bus_body_of))]
-pub fn bus_answer(kind: u8, c: Cycle) -> Answer
+pub fn bus_answer(kind: u8, c: ToldCycle) -> Answer
     ensures { result ≡ done_of kind (bus_body_of c) }
 {
-    let cell = c.told_cell();
     Answer::done(
         kind,
         [
             c.select,
             c.ticks,
-            c.flags(),
-            cell.bank,
-            cell.row,
-            cell.column,
+            c.flags,
+            c.cell.bank,
+            c.cell.row,
+            c.cell.column,
         ],
     )
 }
@@ -31,18 +34,24 @@ pub fn bus_answer(kind: u8, c: Cycle) -> Answer
 pub fn shown_answer(kind: u8, s: Shown) -> Answer
     ensures { result ≡ done_of kind (shown_body_of s) }
 {
-    let [high, low] = s.address.to_be_bytes();
-    let cell = s.cell;
-    let access = u8::from(s.access);
-    Answer::done(kind, [high, low, cell.bank, cell.row, cell.column, access])
+    Answer::done(
+        kind,
+        [
+            high(s.address),
+            low(s.address),
+            s.cell.bank,
+            s.cell.row,
+            s.cell.column,
+            number(s.access),
+        ],
+    )
 }
 
 #[tactic(auto, unfolding(crate::specs::Bodies::levels_body_of))]
-pub fn levels_answer(kind: u8, l: Levelled) -> Answer
+pub fn levels_answer(kind: u8, l: ToldLevels) -> Answer
     ensures { result ≡ done_of kind (levels_body_of l) }
 {
-    let edge = l.edge.map_or(0, u8::from);
-    Answer::done(kind, [edge, l.rows.first, l.rows.count, 0, 0, 0])
+    Answer::done(kind, [l.edge, l.first, l.count, 0, 0, 0])
 }
 
 #[tactic(auto, unfolding(crate::specs::Bodies::located_body_of))]
