@@ -1,8 +1,8 @@
 -- Laws of the text of `rooms`. Assumes nothing.
-use Prim.Native.Nat.{ℕ, ◌+◌, ◌-◌, ◌*◌, ◌/◌, ◌%◌, ◌<◌, ◌≤◌, min}
+use Prim.Native.Nat.{ℕ, ◌+◌, ◌-◌, ◌*◌, ◌<◌, ◌≤◌, min}
 use mathlib.Core.Logic.{⊎_elim}
 use mathlib.Core.Path.{◌≡◌, refl, ap, ◌∙◌}
-use mathlib.Core.List.{List, [], ◌∷◌}
+use mathlib.Core.List.{List}
 use native.Mathlib.Omega.{arith}
 use lib.Dec.{ltb}
 use lib.ListN.{length, take, drop, get_or, replicate, length-append, length-drop, length-replicate, replicate-append-replicate}
@@ -65,15 +65,6 @@ room_most : (hi lo : ℕ) → room_of hi lo ≤ most_output
 unfolding room_of
 room_most hi lo =
     if-both (λ (n : ℕ). n ≤ most_output) (ltb most_output (word_of hi lo)) most_output (word_of hi lo) (λ yes. omega arith) (λ no. ltb-false most_output (word_of hi lo) no)
-
--- the bytes of two counts, the high one of each first
-pub counts-are : (ending taken answers : ℕ) → taken < 65536 → answers < 65536
-    → (ending ∷ taken / 256 % 256 ∷ taken % 256 ∷ answers / 256 % 256 ∷ answers % 256 ∷ 0 ∷ 0 ∷ 0 ∷ []) ≡ counts_of ending taken answers
-unfolding counts_of
-counts-are ending taken answers h g =
-    let a : taken / 256 % 256 ≡ taken / 256 = omega arith in
-    let b : answers / 256 % 256 ≡ answers / 256 = omega arith in
-    rw (a, b)
 
 pub length-counts : (ending taken answers : ℕ) → length (counts_of ending taken answers) ≡ 8
 unfolding counts_of

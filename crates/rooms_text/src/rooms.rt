@@ -4,7 +4,7 @@ ghost use Rattle.batch.specs.Fresh.{most_bytes, most_output};
 ghost use Rattle.rooms_text.specs.Lengths.{room_text_length};
 ghost use Rattle.rooms_text.specs.Rooms.{room_of, counts_of, shown_of, room_text_of};
 
-use basics::word;
+use basics::{high, low, word};
 use batch::{OUTPUT, replay_fresh};
 use text::{LINE, PER_LINE, Text};
 
@@ -29,14 +29,12 @@ pub fn room_of(hi: u8, lo: u8) -> usize
 pub fn counts(ending: u8, taken: u16, answers: u16) -> [u8; 8]
     ensures { result ≡ counts_of ending taken answers }
 {
-    let [taken_high, taken_low] = taken.to_be_bytes();
-    let [answers_high, answers_low] = answers.to_be_bytes();
     [
         ending,
-        taken_high,
-        taken_low,
-        answers_high,
-        answers_low,
+        high(taken),
+        low(taken),
+        high(answers),
+        low(answers),
         0,
         0,
         0,

@@ -1,7 +1,6 @@
-use Rattle.rooms_text.proofs.Shown.{counts-are}
+use Rattle.rooms_text.specs.Rooms.{counts_of}
 use Rattle.rooms_text.proofs.rooms.counts.Goals as goal
 
 pub returns : goal.returns
-returns c =
-    let a = c.args in
-    rw (c.to_be_bytes.ensures, c.to_be_bytes-2.ensures) (counts-are a.ending a.taken a.answers c.ranges.taken.fits c.ranges.answers.fits)
+unfolding counts_of
+returns c = rw (c.low-2.ensures, c.high-2.ensures, c.low.ensures, c.high.ensures)
