@@ -5,9 +5,9 @@ use mathlib.Core.List.{List, [], ◌∷◌, ◌++◌, append-nil}
 use native.Mathlib.Nat.{add-zero}
 use native.Mathlib.Omega.{arith}
 use lib.ListN.{length, get_or, take, drop, length-append, length-drop}
-use Rattle.basics.specs.Lay.{laid_at}
+use Rattle.basics.specs.Lay.{laid_at, put_at}
 use Rattle.basics.proofs.Parts.{drop-next}
-use Rattle.basics.proofs.Laying.{laid_none, laid-laid, length-laid}
+use Rattle.basics.proofs.Laying.{laid_none, laid-put, length-laid}
 use Rattle.answer.specs.Answer.{bytes_of}
 use Rattle.answer.specs.declared.Answer.{Answer}
 use Rattle.record.specs.Sent.{record_of}
@@ -111,7 +111,7 @@ module _ {batch out₀ : List ℕ} {b₀ : Bench} {out : List ℕ} {b : Bench} {
     pub more : 8 ≤ length out₀ - 8 * answers
         → (q : Record) → q ≡ record_of f
         → (s : Stepped) → s ≡ step_of b q.kind q.hi q.lo q.value
-        → (o : List ℕ) → o ≡ laid_at out (8 * answers) (bytes_of s.answer)
+        → (o : List ℕ) → o ≡ put_at out (8 * answers) (bytes_of s.answer)
         → (behind : List ℕ) → behind ≡ drop 4 rest
         → Reached batch out₀ b₀ o s.bench behind (answers + 1)
     more r q t s e o w behind past =
@@ -119,7 +119,7 @@ module _ {batch out₀ : List ℕ} {b₀ : Bench} {out : List ℕ} {b : Bench} {
         let a = s.answer in
         let place : 8 * answers ≡ 0 + length (written_of l) = omega (arith, length-written l, h.count) in
         let laid : o ≡ laid_at out₀ 0 (written_of (l ++ (a ∷ []))) =
-        w ∙ rw (h.holds, written_next l a) (laid-laid out₀ 0 (written_of l) (bytes_of a) (8 * answers) place (omega arith)) in
+        w ∙ rw (h.holds, written_next l a) (laid-put out₀ 0 (written_of l) (bytes_of a) (8 * answers) place (omega arith)) in
         let took : step_of b (record_of f).kind (record_of f).hi (record_of f).lo (record_of f).value ≡ s = sym (e ∙ ap (λ (p : Record). step_of b p.kind p.hi p.lo p.value) t) in
         let turn : run_of rest (length out₀ - 8 * answers) b ≡ after s (run_of behind (length out₀ - 8 * answers - 8)) =
         ap (λ (x : List ℕ). run_of x (length out₀ - 8 * answers) b) (four rest f first long)

@@ -1,11 +1,12 @@
 // The replay: record after record, until the batch is empty, is cut short, or its next answer has no room.
-ghost use Rattle.std.specs.Prelude.{◌≡◌, ◌*◌, ◌+◌, ◌<◌, ◌≤◌, length};
-ghost use Rattle.basics.specs.Lay.{laid_at};
+ghost use Rattle.std.specs.Prelude.{◌≡◌, ◌*◌, ◌<◌};
+ghost use Rattle.basics.specs.Lay.{put_at};
 ghost use Rattle.answer.specs.Answer.{bytes_of};
 ghost use Rattle.replay.specs.Run.{ended_of, replay_of, output_of};
 
 use crate::ending::Ending;
 use answer::Answer;
+use basics::put;
 use bench::Bench;
 use record::Record;
 
@@ -23,12 +24,10 @@ pub struct Replayed {
 }
 
 // Writes an answer's bytes at a place of the output, which is the caller's: what it holds besides is promised.
-#[tactic(auto, using(basics::proofs::Laying::part_laid))]
 fn write(out: &mut [u8], at: usize, answer: Answer)
-    requires { at + 8 ≤ length out.old }
-    ensures { out.new ≡ laid_at out.old at (bytes_of answer) }
+    ensures { out.new ≡ put_at out.old at (bytes_of answer) }
 {
-    out[at..at + ANSWER].copy_from_slice(&answer.bytes());
+    put(out, at, &answer.bytes());
 }
 
 // What a replay that ends here returns: four bytes are taken for each answer.

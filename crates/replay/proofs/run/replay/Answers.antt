@@ -1,5 +1,6 @@
 use mathlib.Core.Path.{refl, sym, ◌∙◌}
 use native.Mathlib.Omega.{arith}
+use Rattle.std.proofs.Common.{rules}
 use borrow.Author.Tests.{eqb-true, eqb-false}
 use lib.ListN.{length}
 use Rattle.replay.specs.Run.{replay_of, output_of}
@@ -12,7 +13,7 @@ loop-sent-init c = start _ _ _
 pub loop-sent-preserved : goal.loop-sent-preserved
 loop-sent-preserved c =
     let sent = c.in-Some.ensures.cases in
-    more c.loop-sent.invariant _ sent.0 (omega arith) (omega arith) _ c.from.ensures _ c.step-stepped.ensures _ c.write.ensures _ sent.1
+    more c.loop-sent.invariant _ sent.0 (omega arith) (omega arith) _ c.from.ensures _ c.step-stepped.ensures _ c.write.ensures _ (search rules)
 
 pub returns-then-out-answers-lt-ANSWER : goal.returns-then-out-answers-lt-ANSWER
 unfolding replay_of output_of
