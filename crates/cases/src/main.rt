@@ -9,6 +9,7 @@ ghost use Rattle.frames.specs.Places.{frame_times};
 ghost use Rattle.locator.specs.Locate.{refusal_of, cell_of};
 ghost use Rattle.settled.specs.Cases.{cases, set_of, reached_of, seen_of};
 
+use basics::number;
 use controller::Controller;
 use locator::{Cell, Unlocated, locate};
 
@@ -116,7 +117,7 @@ fn told(found: Result<Cell, Unlocated>) -> [u8; 3]
 }
 
 // What is seen of a case.
-#[tactic(auto, using(crate::proofs::Bytes::byte_num), unfolding(settled::specs::Cases::looked_of, settled::specs::Cases::seen_of))]
+#[tactic(auto, unfolding(settled::specs::Cases::looked_of, settled::specs::Cases::seen_of))]
 fn seen(k: [u8; 11]) -> [u32; 8]
     ensures { result ≡ seen_of k }
 {
@@ -126,8 +127,8 @@ fn seen(k: [u8; 11]) -> [u32; 8]
     let [refusal, row, column] = told(locate(c));
     [
         frame,
-        u32::from(o.picture),
-        u32::from(c.scan.adjusting),
+        u32::from(number(o.picture)),
+        u32::from(number(c.scan.adjusting)),
         u32::from(o.ma),
         u32::from(c.pen.newest().latch),
         u32::from(refusal),
