@@ -9,47 +9,39 @@ use serial_text::{space, tell, tell_end};
 use std::convert::AsSlice;
 use std::io::{Read, Write};
 use streams::complain;
+use text::said;
 
-#[derive(Clone, Copy)]
+#[derive(Clone, Copy, PartialEq, Eq)]
 enum Stop {
-    Ended(Line),
+    Ended,
     Unread,
     Unwritten,
 }
 
-fn one_turn(rt: &HostRuntime, before: Line) -> Result<Line, Stop> {
+fn one_turn(rt: &HostRuntime, line: &mut Line) -> Result<(), Stop> {
     let mut cut = space();
     let n = rt.stdin().read(&mut cut).map_err(|_| Stop::Unread)?;
-    let told = tell(before, &cut[..n]);
-    let line = told.line;
-    rt.stdout()
-        .write_all(told.text.as_slice())
-        .map_err(|_| Stop::Unwritten)?;
-    if n == 0 {
-        return Err(Stop::Ended(line));
-    }
-    Ok(line)
+    let told = tell(*line, &cut[..n]);
+    *line = told.line;
+    Write::write_all(&mut rt.stdout(), told.text.as_slice()).map_err(|_| Stop::Unwritten)?;
+    if n == 0 { Err(Stop::Ended) } else { Ok(()) }
 }
 
-fn all_turns(rt: &HostRuntime, first: Line) -> Result<Line, Stop> {
-    let mut line = first;
+fn all_turns(rt: &HostRuntime, line: &mut Line) -> Result<(), Stop> {
     for _ in 0..u64::MAX {
-        line = one_turn(rt, line)?;
+        one_turn(rt, line)?;
     }
-    Ok(line)
+    Ok(())
 }
 
 fn main(rt: HostRuntime) {
-    match all_turns(&rt, Line::fresh()) {
-        Ok(_) => (),
-        Err(Stop::Ended(line)) => {
-            let last = tell_end(line);
-            let written = rt.stdout().write_all(last.as_slice());
-            complain(&rt, true, written.is_ok());
-        }
-        Err(Stop::Unread) => complain(&rt, false, true),
-        Err(Stop::Unwritten) => complain(&rt, true, false),
-    }
+    let mut line = Line::fresh();
+    let stop = all_turns(&rt, &mut line);
+    let last = tell_end(line);
+    let shown = said(stop == Err(Stop::Ended), last.as_slice());
+    let written = Write::write_all(&mut rt.stdout(), shown).is_ok();
+    let all_written = written & (stop != Err(Stop::Unwritten));
+    complain(&rt, stop != Err(Stop::Unread), all_written);
 }
 """
 
@@ -60,7 +52,7 @@ use line::Line;
 use std::convert::AsSlice;
 use std::io;
 use std::io::Write;
-use streams::{complain, read_full};
+use streams::{complain, read_input};
 use text::said;
 
 fn all_calls(rt: &HostRuntime, list: &[u8]) -> io::Result<()> {
@@ -70,7 +62,7 @@ fn all_calls(rt: &HostRuntime, list: &[u8]) -> io::Result<()> {
         let Some(made) = make(line, rest) else {
             break;
         };
-        rt.stdout().write_all(made.text.as_slice())?;
+        Write::write_all(&mut rt.stdout(), made.text.as_slice())?;
         line = made.line;
         rest = &rest[made.used..];
     }
@@ -79,11 +71,11 @@ fn all_calls(rt: &HostRuntime, list: &[u8]) -> io::Result<()> {
 
 fn main(rt: HostRuntime) {
     let mut room = [0u8; cuts_text::INPUT + 1];
-    let came = read_full(&mut rt.stdin(), &mut room);
+    let came = read_input(&mut rt.stdin(), &mut room);
     let readable = came.is_ok();
     let input: &[u8] = &room[..came.unwrap_or(0)];
     let listed = is_list(input);
-    let refused = rt.stdout().write_all(said(readable & !listed, &refusal()));
+    let refused = Write::write_all(&mut rt.stdout(), said(readable & !listed, &refusal()));
     let shown = all_calls(&rt, said(readable & listed, input));
     complain(&rt, readable, refused.is_ok() & shown.is_ok());
 }

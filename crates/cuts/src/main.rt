@@ -7,7 +7,7 @@ use line::Line;
 use std::convert::AsSlice;
 use std::io;
 use std::io::Write;
-use streams::{complain, read_full};
+use streams::{complain, read_input};
 use text::said;
 
 // Call after call, to the end of the list, each printed; an error where one cannot be written. A call takes a byte at least, so there are no
@@ -19,7 +19,7 @@ fn all_calls(rt: &HostRuntime, list: &[u8]) -> io::Result<()> {
         let Some(made) = make(line, rest) else {
             break;
         };
-        rt.stdout().write_all(made.text.as_slice())?;
+        Write::write_all(&mut rt.stdout(), made.text.as_slice())?;
         line = made.line;
         rest = &rest[made.used..];
     }
@@ -28,11 +28,11 @@ fn all_calls(rt: &HostRuntime, list: &[u8]) -> io::Result<()> {
 
 fn main(rt: HostRuntime) {
     let mut room = [0u8; cuts_text::INPUT + 1];
-    let came = read_full(&mut rt.stdin(), &mut room);
+    let came = read_input(&mut rt.stdin(), &mut room);
     let readable = came.is_ok();
     let input: &[u8] = &room[..came.unwrap_or(0)];
     let listed = is_list(input);
-    let refused = rt.stdout().write_all(said(readable & !listed, &refusal()));
+    let refused = Write::write_all(&mut rt.stdout(), said(readable & !listed, &refusal()));
     let shown = all_calls(&rt, said(readable & listed, input));
     complain(&rt, readable, refused.is_ok() & shown.is_ok());
 }
