@@ -70,6 +70,8 @@ FACTS = (
     ("omega", r"^error: .*`omega`: the (?:goal|part `[^`]+` of the goal) does not follow from what it read\."
               r" All of that holds, and the (?:goal|part) fails, at ",
      "numbers for which it fails are named"),
+    ("grind", r"^error: .*`grind` found no proof\..*: the goal fails at ",
+     "values for which it fails are named"),
     ("rewrite", r"^error: .*`(?:rw|simp)` has no last argument, so what it leaves must be a path whose two ends are equal, and `",
      "the two sides of an equation are not equal"),
 )
@@ -349,6 +351,7 @@ LENGTH = 160  # of the refusal that it quotes, at most
 # What the first line of a refusal says, or its beginning, where the whole one would say more.
 FIRST_LINES = FACTS + (
     ("omega", r"^error: .*`omega`: the (?:goal|part `[^`]+` of the goal) does not follow from what it read", ""),
+    ("grind", r"^error: .*`grind` found no proof", ""),
     ("rewrite", r"^error: .*give a proof of that as the last argument, `(?:rw|simp) ", ""),
 )
 

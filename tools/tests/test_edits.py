@@ -170,6 +170,7 @@ class Said(EditsTest):
             "./proofs/one/Answers.antt:7:13: error: `returns`: as printed, the two types differ only where one has `(one_of c.args.self)`": "differ",
             "./proofs/Laws.antt:22:23: error: `law`: computed as far as they go, the two types differ only where one has `1` (expected) and the": "differ",
             "./proofs/Laws.antt:45:53: error: `law`: `omega`: the goal does not follow from what it read. All of that holds, and the go": "omega",
+            "./proofs/Laws.antt:17:44: error: `law`: `grind` found no proof. It did not look into `length c.args.cut.now`, nor every instance": "grind",
             "./proofs/Laws.antt:14:19: error: `law`: give a proof of that as the last argument, `rw L t` (`rw L ?` shows it as a hole's goal)": "rewrite",
             "./proofs/Laws.antt:32:32: error: `law`: expected type `Within (moved_of r s)`, but this has type `Within (top_of r)`": "type",
         }
@@ -367,6 +368,7 @@ class Classes(unittest.TestCase):
             "`returns`: `search`: no proof of `is not in scope x ≡ y`": "search",
             "`returns`: `omega`: the goal does not follow from what it read. All of that holds, and the goal fails, at `x` = 0": "omega",
             "`add-k`: `omega`: the part `.fits` of the goal does not follow from what it read. All of that holds, and the part fails, at `x`": "omega",
+            "`returns`: `grind` found no proof. It did not look into `length a`, so this may not break the goal: the goal fails at `x` = `true`": "grind",
             "`loop-again`: computed as far as they go, the two types differ only where one has `0` (expected) and the other has `1` (found)": "differ",
             "`returns`: as printed, the two types first differ where one has `0`": "differ",
             "`loop-i-preserved`: as printed, the two sides first differ where one has `(one_of n)` (expected)": "differ",
