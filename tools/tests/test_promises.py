@@ -118,6 +118,19 @@ class Promises(DocsTest):
         self.edit(FILE, "(r ≡ one_of a.0) ×", "(r ≡ length (one_of a.0)) × (s.1.0.now ≡ laid_at a.1.0.now 0 (one_of a.0)) ×")
         self.assertRight()
 
+    def test_a_contract_by_the_text_in_its_answer(self):
+        for given in ("r.text", "text_in r"):
+            with self.subTest(given):
+                self.files[FILE] = FILES[FILE]
+                self.edit(FILE, "(r ≡ one_of a.0) ×", f"({given} ≡ one_of a.0) ×")
+                self.assertRight()
+
+    def test_a_contract_by_something_else_of_its_answer(self):
+        for given in ("r.long", "r.text.now", "text_in a.0", "length r.text", "first r", "text_of r"):
+            with self.subTest(given):
+                self.files[FILE] = FILES[FILE]
+                self.assertFile("(r ≡ one_of a.0) ×", f"({given} ≡ one_of a.0) ×", "which is neither the result nor what a buffer holds afterwards")
+
     def test_states_that_asks_for_nothing(self):
         self.assertEdit(promises.STATES_FILE, "→ P κs a r s → Q κs a r s", "→ Q κs a r s → Q κs a r s", "States.antt: it has to say `States ")
 

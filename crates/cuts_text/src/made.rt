@@ -3,7 +3,7 @@ ghost use Rattle.std.specs.Prelude.{◌≡◌, ◌+◌, ◌≤◌, IfSome, lengt
 ghost use Rattle.batch.specs.Fresh.{most_output};
 ghost use Rattle.line.specs.Line.{outcome_of, closing_of};
 ghost use Rattle.cuts_text.specs.Asked.{call_head};
-ghost use Rattle.cuts_text.specs.Made.{call_text_length, made_of, close_text_of, cut_text_of};
+ghost use Rattle.cuts_text.specs.Made.{call_text_length, made_of, text_in, call_text_of, close_text_of, cut_text_of};
 ghost use Rattle.cuts_text.specs.private.Within.{most_long, shown_as};
 
 use crate::asked::{Asked, HEAD, first};
@@ -70,6 +70,7 @@ fn handed(before: Line, cut: &[u8], room: usize) -> Made
 pub fn make(before: Line, rest: &[u8]) -> Option<Made>
     ensures room { TEXT ≡ call_text_length }
     ensures made { result ≡ made_of before rest.now }
+    ensures text { text_in result ≡ call_text_of before rest.now }
     ensures kept { rest.exit.now ≡ rest.entry.now }
     ensures within { IfSome result (λ made. made.used ≤ length rest.now) }
 {

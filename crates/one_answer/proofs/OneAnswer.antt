@@ -471,7 +471,7 @@ pub serial-text-space : OneAnswer SerialTextSpace.Post (λ κs r s. r)
 serial-text-space κs a x y s t p q = one_answer p q
 
 pub serial-text-tell : OneAnswer SerialTextTell.Post (λ κs r s. r beside s.1.0.now)
-serial-text-tell κs a x y s t p q = one_answer p.1.0 q.1.0 and one_answer p.1.1 q.1.1
+serial-text-tell κs a x y s t p q = one_answer p.1.0 q.1.0 and one_answer p.1.1.1 q.1.1.1
 
 pub cuts-text-refusal : OneAnswer CutsTextRefusal.Post (λ κs r s. r)
 cuts-text-refusal κs a x y s t p q = one_answer p q
@@ -480,7 +480,7 @@ pub cuts-text-is-list : OneAnswer CutsTextIsList.Post (λ κs r s. r beside s.0.
 cuts-text-is-list κs a x y s t p q = one_answer p.0 q.0 and one_answer p.1 q.1
 
 pub cuts-text-make : OneAnswer CutsTextMake.Post (λ κs r s. r beside s.1.0.now)
-cuts-text-make κs a x y s t p q = one_answer p.1.0 q.1.0 and one_answer p.1.1.0 q.1.1.0
+cuts-text-make κs a x y s t p q = one_answer p.1.0 q.1.0 and one_answer p.1.1.1.0 q.1.1.1.0
 
 pub setup-reader-part : OneAnswer SetupReaderPart.Post (λ κs r s. r.now beside r.ref_ptr beside s.0.now)
 setup-reader-part κs a x y s t p q = one_answer p.0 q.0 and one_answer p.1.0 q.1.0 and one_answer p.1.1 q.1.1

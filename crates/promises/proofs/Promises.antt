@@ -66,13 +66,13 @@ use Rattle.every_line.specs.Demand.{Demand3OffTheLine}
 use Rattle.every_line.proofs.Calls.{calls}
 use Rattle.every_line.proofs.Cuts.{together}
 use Rattle.every_line.proofs.Demand.{demand3-off-the-line}
-use Rattle.serial_text.specs.Turn.{told_of, TextTold}
+use Rattle.serial_text.specs.Turn.{told_of, turn_text_of, TextTold}
 use Rattle.serial_text.proofs.Said.{text-told}
 use Rattle.serial_text.specs.Ending.{last_text_of}
 use Rattle.serial_listing.specs.Printed.{PrintsTheListing}
 use Rattle.serial_listing.proofs.Printed.{prints}
 use Rattle.cuts_text.specs.Asked.{is_list_of}
-use Rattle.cuts_text.specs.Made.{made_of, TextMade}
+use Rattle.cuts_text.specs.Made.{made_of, text_in, call_text_of, TextMade}
 use Rattle.cuts_text.proofs.Shown.{text-made}
 use Rattle.call_lists.specs.Lists.{Shows}
 use Rattle.call_lists.proofs.Lists.{shows}
@@ -306,8 +306,11 @@ demand-three-off-the-line = demand3-off-the-line
 pub serial-told : States of-serial_text-tell.Post (λ κs a r s. r ≡ told_of a.0 a.1.0.now)
 serial-told κs a r s p = p.1.0
 
-pub serial-text : (l : Line) (cut : List ℕ) → TextTold l cut
-serial-text = text-told
+pub serial-text : States of-serial_text-tell.Post (λ κs a r s. r.text ≡ turn_text_of a.0 a.1.0.now)
+serial-text κs a r s p = p.1.1.0
+
+pub serial-told-text : (l : Line) (cut : List ℕ) → TextTold l cut
+serial-told-text = text-told
 
 pub serial-end : States of-serial_text-tell_end.Post (λ κs a r s. r ≡ last_text_of a.0)
 serial-end κs a r s p = p.1
@@ -321,8 +324,11 @@ cuts-listed κs a r s p = p.0
 pub cuts-made : States of-cuts_text-make.Post (λ κs a r s. r ≡ made_of a.0 a.1.0.now)
 cuts-made κs a r s p = p.1.0
 
-pub cuts-text : (l : Line) (rest : List ℕ) → TextMade l rest
-cuts-text = text-made
+pub cuts-text : States of-cuts_text-make.Post (λ κs a r s. text_in r ≡ call_text_of a.0 a.1.0.now)
+cuts-text κs a r s p = p.1.1.0
+
+pub cuts-made-text : (l : Line) (rest : List ℕ) → TextMade l rest
+cuts-made-text = text-made
 
 pub cuts-shown : (input : List ℕ) → Shows input
 cuts-shown = shows

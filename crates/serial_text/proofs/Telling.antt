@@ -7,7 +7,6 @@ use lib.ListN.{length, take, replicate, length-append, length-replicate}
 use Rattle.text.specs.Lines.{per_line}
 use Rattle.decimal.proofs.Digits.{length-decimal}
 use Rattle.decimal.specs.Decimal.{most_digits}
-use Rattle.answer_lines.specs.Lines.{answer_lines_of}
 use Rattle.answer_lines.specs.Marked.{with_lines}
 use Rattle.answer_lines.proofs.Lined.{adds-lines, lines-answers}
 use Rattle.replay.specs.Run.{written_of}
@@ -36,20 +35,25 @@ pub out_within : (l : Line) (cut : List ℕ) {r : Called} {out' : List ℕ} → 
     → (per_line * r.answers ≤ most_out) × (length out' ≡ most_out)
 out_within l cut {r} {out'} e w = (rw length-lent at (accept-within l cut lent r e).1, accepted-same l cut lent out' w ∙ length-lent)
 
--- what the call gave, on lines
-pub told : (l : Line) (cut : List ℕ) {r : Called} {out' t u : List ℕ} → t ≡ [] → r ≡ accept_of l cut lent → out' ≡ accepted_of l cut lent
-    → u ≡ with_lines turn_length t (take (per_line * r.answers) out')
-    → ◌≡◌ {A = Told} (record { line = r.line; ending = r.ending; taken = r.taken; text = u }) (told_of l cut)
-unfolding accept_of turn_text_of told_of
-told l cut {r} {out'} {t} {u} empty e w a =
+-- the answers that the call gave, on lines
+pub told_text : (l : Line) (cut : List ℕ) {r : Called} {out' t u : List ℕ} → t ≡ [] → r ≡ accept_of l cut lent → out' ≡ accepted_of l cut lent
+    → u ≡ with_lines turn_length t (take (per_line * r.answers) out') → u ≡ turn_text_of l cut
+unfolding turn_text_of
+told_text l cut {r} {out'} {t} {u} empty e w a =
     let answers = (turn_of l cut).answers in
     let bytes : length (written_of answers) ≡ 8 * length answers = length-written answers in
     let most = (outcome-within l cut most_out).1 in
     let same : outcome_of l cut (length lent) ≡ turn_of l cut = ap (outcome_of l cut) length-lent in
     let front : take (per_line * r.answers) out' ≡ written_of answers = rw same at (accepted-front l cut lent r e out' w) in
-    let text : u ≡ answer_lines_of answers =
     adds-lines turn_length t (written_of answers) (rw front at a) (omega (arith, bytes, most, ap length empty))
-    ∙ ap₂ (λ (x y : List ℕ). x ++ y) empty (lines-answers answers) in
+    ∙ ap₂ (λ (x y : List ℕ). x ++ y) empty (lines-answers answers)
+
+-- what the call gave, with that text
+pub told : (l : Line) (cut : List ℕ) {r : Called} {u : List ℕ} → r ≡ accept_of l cut lent → u ≡ turn_text_of l cut
+    → ◌≡◌ {A = Told} (record { line = r.line; ending = r.ending; taken = r.taken; text = u }) (told_of l cut)
+unfolding accept_of told_of
+told l cut e text =
+    let same : outcome_of l cut (length lent) ≡ turn_of l cut = ap (outcome_of l cut) length-lent in
     rw (e, same, text)
 
 -- the last line has room

@@ -1,6 +1,6 @@
 // A cut that came off the line, and its answers on lines.
 ghost use Rattle.std.specs.Prelude.{◌≡◌, replicate};
-ghost use Rattle.serial_text.specs.Turn.{most_cut, turn_length, told_of};
+ghost use Rattle.serial_text.specs.Turn.{most_cut, turn_length, told_of, turn_text_of};
 
 use answer_lines::{MARKED, put_answers};
 use line::{CallEnding, Line};
@@ -38,6 +38,7 @@ pub struct Told {
 pub fn tell(before: Line, cut: &[u8]) -> Told
     ensures room { TEXT ≡ turn_length }
     ensures told { result ≡ told_of before cut.now }
+    ensures text { result.text ≡ turn_text_of before cut.now }
     ensures kept { cut.exit.now ≡ cut.entry.now }
 {
     let mut out = [0u8; OUTPUT];

@@ -1,6 +1,8 @@
-use mathlib.Core.Path.{◌≡◌, ap}
+use mathlib.Core.Path.{◌≡◌, ap, ◌∙◌}
 use Rattle.std.specs.Prelude.{Some, None}
 use Rattle.cuts_text.proofs.Making.{cut_bytes, makes}
+use Rattle.cuts_text.proofs.Shown.{text-made}
+use Rattle.cuts_text.specs.Made.{text_in}
 use Rattle.cuts_text.proofs.made.make.Goals as goal
 
 pub returns-in_err-first-clause-made : goal.returns-in_err-first-clause-made
@@ -20,3 +22,12 @@ returns-in-Cut-clause-made c =
     let within = rw c.in-Cut.is at c.in_ok-first.ensures.within in
     let bytes = cut_bytes rest c.in-Cut.long within.1 in
     makes c.args.before rest c.first.ensures.is (rw (some, c.in-Cut.is) (ap Some (rw (c.from-end.ensures, bytes.0, bytes.1) at c.handed.ensures)))
+
+pub returns-in_err-first-clause-text : goal.returns-in_err-first-clause-text
+returns-in_err-first-clause-text c = ap text_in (returns-in_err-first-clause-made c) ∙ text-made c.args.before c.args.rest.now
+
+pub returns-in-Close-clause-text : goal.returns-in-Close-clause-text
+returns-in-Close-clause-text c = ap text_in (returns-in-Close-clause-made c) ∙ text-made c.args.before c.args.rest.now
+
+pub returns-in-Cut-clause-text : goal.returns-in-Cut-clause-text
+returns-in-Cut-clause-text c = ap text_in (returns-in-Cut-clause-made c) ∙ text-made c.args.before c.args.rest.now
