@@ -1,4 +1,5 @@
-"""Public functions and their laws: each states its whole answer, has no `requires`, and has the one law that its signature asks for.
+"""Public functions and their laws: each states its whole answer, has no `requires`, and has the one law that its signature asks for. So has
+each function of a trait that a type implements.
 
 The laws stand in crates/one_answer/proofs/OneAnswer.antt, over the real contracts (`Post`, which Rattle makes of the source's clauses); the
 form that they take is defined in crates/one_answer/specs/OneAnswer.antt. A call of a static library has no law of its own, since no crate
@@ -15,9 +16,10 @@ FORMS = "crates/one_answer/specs/OneAnswer.antt"
 MODULE = "Rattle.one_answer.specs.OneAnswer"
 # The traits that the code implements, each with the ghost members that say what its functions give or what clauses see of the type.
 TRAITS = {"From": ("from_gives",), "TryFrom": ("try_from_gives",), "AsSlice": ("items",), "Model": ("Value", "view")}
-# What a conversion gives, as one equation, so that it leaves no choice.
-GIVES = re.compile(r"\{ λ (\w+) (\w+)\. \2 ≡ (?!.*\b\2\b).* \}")
-CONVERSIONS = ("from_gives", "try_from_gives")
+# The conversions, whose contract is their trait's: that the ghost member of the impl holds of what is taken and what is given. It is one
+# equation with a term of names and parentheses alone, so that it leaves no choice.
+CONVERSIONS = {"from": "from_gives", "try_from": "try_from_gives"}
+GIVES = re.compile(r"\{ λ (\w+) (\w+)\. \2 ≡ ((?!.*\b\2\b)[\w.() ]+) \}")
 # What the laws' types are made of, by the names that they have there.
 PARTS = {"OneAnswer": (MODULE, "OneAnswer"), "◌beside◌": (MODULE, "◌beside◌"), "ℕ": ("Rattle.std.specs.Prelude", "ℕ"), "Fits": ("mir.Val", "Fits")}
 PARTS |= {width: ("mir.Syntax", width) for width in WIDTHS.values()}
@@ -50,16 +52,19 @@ def declaring_modules(readers, owner, function):
 def reads_module(crate, readers, function):
     """The module in which Rattle has a function's contract, read plainly."""
     words = ()
-    if function.owner:
+    if function.trait:
+        words = function.modules + (function.proved_as,)
+    elif function.owner:
         words = declaring_modules(readers, function.owner, function) + (function.owner,)
     return ".".join(("Rattle", crate, "proofs") + words + (function.name, "Reads"))
 
 
 def names_of(crate, functions):
-    """The law's name for each public function: its crate and its name, with its type where two share the name."""
+    """The law's name for each public function: its crate and its name, with its type, or its impl of a trait, where two share the name."""
     names = [function.name for function in functions]
     for function in functions:
-        words = [crate] + ([function.owner] if names.count(function.name) > 1 and function.owner else []) + [function.name]
+        owner = function.proved_as or function.owner
+        words = [crate] + ([owner] if names.count(function.name) > 1 and owner else []) + [function.name]
         yield "-".join(words).replace("_", "-")
 
 
@@ -100,16 +105,29 @@ def holds_written(tokens):
 
 def check_impls(reader):
     """Yields what the `impl` blocks of traits lack, by their lines: a trait that is known, its ghost members, a conversion with one answer."""
-    for line, trait, owner in reader.blocks:
+    for number, (line, trait, owner) in enumerate(reader.blocks):
         if trait not in TRAITS:
             yield line, f"an impl of {trait} for {owner}, a trait which this check does not know"
-        members = {one.name: one.stated for one in reader.members if (one.trait, one.owner) == (trait, owner)}
+        members = members_of(reader, number)
         for name in TRAITS.get(trait, ()):
             if name not in members:
                 yield line, f"an impl of {trait} for {owner} without `ghost {name}`"
     for one in reader.members:
-        if one.name in CONVERSIONS and not GIVES.fullmatch(" ".join(one.stated.split())):
+        if one.name in CONVERSIONS.values() and not GIVES.fullmatch(" ".join(one.stated.split())):
             yield one.line, f"the conversion to {one.owner} does not say in one equation, `λ x y. y ≡ ..`, what it gives"
+
+
+def members_of(reader, number):
+    """The ghost members of one `impl` by their names, each with its words."""
+    return {one.name: " ".join(one.stated.split()) for one in reader.members if one.block == number}
+
+
+def as_promised(reader, function):
+    """A function with its contract, which of a conversion that has no clauses of its own is what the ghost member of its impl says."""
+    means = GIVES.fullmatch(members_of(reader, function.block).get(CONVERSIONS.get(function.name, ""), ""))
+    if function.clauses or means is None:
+        return function
+    return dataclasses.replace(function, clauses=["ensures"], stated=[f"{{ result ≡ {means.group(3)} }}"])
 
 
 def paths_of(words):
@@ -144,7 +162,12 @@ def wanted_of(top, crate):
     """The laws that a library's public functions need, and what is wrong with those functions."""
     readers, wrong = read_all(top, crate)
     wrong += check_handed(top, crate, readers)
-    public = [(where, function) for where, reader in readers.items() for function in reader.functions if function.public]
+    public = [
+        (where, as_promised(reader, function))
+        for where, reader in readers.items()
+        for function in reader.functions
+        if function.public or function.trait
+    ]
     wanted = []
     for (where, function), law in zip(public, names_of(crate, [function for _, function in public])):
         place = f"{where}: {called(function)}"
@@ -232,6 +255,7 @@ def check_programs(top):
         yield from wrong
         for where, reader in readers.items():
             yield from (f"{where}: {called(function)} is public, in a program" for function in reader.functions if function.public)
+            yield from (f"{where}:{line}: an impl of {trait}, in a program" for line, trait, _ in reader.blocks)
             if crate in fixed.PROGRAMS:
                 yield from check_words(crate, where, reader, fixed.PROGRAMS[crate], "main.rt")
 
@@ -255,6 +279,7 @@ def check_static_libraries(top):
         readers, wrong = read_all(top, crate)
         yield from wrong
         for where, reader in readers.items():
+            yield from (f"{where}:{line}: an impl of {trait}, in a crate of calls for other languages" for line, trait, _ in reader.blocks)
             for function in reader.functions:
                 fault = call_fault(function, there.get(function.name, []))
                 if fault:

@@ -40,7 +40,11 @@ class Grounds:
         for reader in self.things.readers[crate]:
             uses = [use for line, text in reader.ghosts for use in antt.uses_of(antt.Item(line, text))]
             hidden = {thing.name for thing in self.things.declared(crate, "struct", "enum") if not thing.public}
-            stated = [(contracts.called(function), function.stated) for function in reader.functions if function.public]
+            stated = [
+                (contracts.called(function), function.stated)
+                for function in reader.functions
+                if function.public or function.trait and function.stated and function.owner not in hidden
+            ]
             stated += [(f"{one.owner}::{one.name}", [one.stated]) for one in reader.members if one.owner not in hidden]
             for called, clauses in stated:
                 named = self.definitions.named_in(" ".join(clauses), uses)

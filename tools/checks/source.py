@@ -52,6 +52,7 @@ class Function:
     body: list
     stated: list  # the clauses' own texts
     trait: str = ""  # of a trait's `impl`, whose ghost members say what the function gives
+    block: int = -1  # the number of that `impl` among the source's
     proved_as: str = ""  # the name that the prover gives to that `impl`, as U8FromKind
     generics: tuple = ()  # its own and its type's, without lifetimes: of a `const` the name and the type, of a type its name and nothing
 
@@ -61,6 +62,7 @@ class Member:
     """A ghost member of an `impl`: what it says of the trait's functions for the type."""
 
     trait: str
+    block: int  # the number of its `impl` among the source's
     owner: str
     name: str
     line: int
@@ -231,7 +233,7 @@ class Reader:
         self.handed = []  # what `pub use` hands on: the line, and the words of its path
         self.members = []  # the ghost members of `impl` blocks
         self.blocks = []  # the `impl` blocks of traits: the line, the trait and the type
-        self.trait, self.proved_as = "", ""  # the trait whose `impl` is being read, and the prover's name for that
+        self.trait, self.proved_as, self.block = "", "", -1  # the trait whose `impl` is being read, the prover's name for that, and its number
         self.outer = ()  # what the `impl` is generic over
         self.items(0, len(self.tokens), modules, "")
         if self.clauses_in(self.tokens) != self.clauses_read():
@@ -316,7 +318,7 @@ class Reader:
         name, *signs = (self.text(place + step) for step in (1, 2, 4))
         if signs != ["=", ";"] or self.tokens[place + 3].kind != "clause":
             raise Unreadable(f"line {self.tokens[place].line}: a ghost member that is no `ghost NAME = {{ .. }};`")
-        self.members.append(Member(self.trait, owner, name, self.tokens[place].line, self.text(place + 3)))
+        self.members.append(Member(self.trait, self.block, owner, name, self.tokens[place].line, self.text(place + 3)))
         return place + 5
 
     def past_item(self, place):
@@ -355,11 +357,12 @@ class Reader:
                 raise Unreadable(f"line {line}: an impl without a block")
         end = past_group(self.tokens, place)
         if trait:
+            self.block = len(self.blocks)
             self.blocks.append((line, trait, owner))
         self.trait, self.outer = trait, generics
         self.proved_as = owner[:1].upper() + owner[1:] + trait + arguments if trait else ""
         self.items(place + 1, end - 1, modules, owner)
-        self.trait, self.proved_as, self.outer = "", "", ()
+        self.trait, self.proved_as, self.block, self.outer = "", "", -1, ()
         return end
 
     def function(self, place, modules, owner, public):
@@ -377,8 +380,8 @@ class Reader:
             raise Unreadable(f"line {line}: fn {name} has no body where one is expected")
         end = past_group(self.tokens, place)
         body = self.tokens[place:end]
-        made = Function(name, owner, modules, line, public, parameters, answer, clauses, names, body, stated, self.trait, self.proved_as, generics)
-        self.functions.append(made)
+        block = (self.trait, self.block, self.proved_as)
+        self.functions.append(Function(name, owner, modules, line, public, parameters, answer, clauses, names, body, stated, *block, generics))
         return end
 
     def answer(self, place):

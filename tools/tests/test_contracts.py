@@ -203,22 +203,72 @@ class Impls(ContractsTest):
 
     FROM = "impl From<Width> for u8 {\n    ghost from_gives = { λ w n. MEANS };\n\n    fn from(w: Width) -> u8 {\n        5\n    }\n}\n"
 
+    USE = "use Rattle.alpha.proofs.U8FromWidth.from.Reads as AlphaFrom\n"
+    LAW = "\npub alpha-from : OneAnswer AlphaFrom.Post (λ κs r s. r)\nalpha-from κs a x y s t p q = one_answer p q\n"
+
     def conversion(self, means):
         """A conversion that says this of what it takes and gives."""
         return self.FROM.replace("MEANS", means)
 
+    def laws(self):
+        """The laws with the conversion's."""
+        self.edit(LAWS, "use Rattle.alpha.proofs.one.Reads", f"{self.USE}use Rattle.alpha.proofs.one.Reads")
+        self.files[LAWS] += self.LAW
+
     def test_a_conversion_that_says_what_it_gives(self):
-        self.files[LIB] += self.conversion("n ≡ bits_of w")
+        self.files[LIB] += self.conversion("n ≡ bits_of (one w)")
+        self.laws()
         self.assertRight()
 
+    def test_a_conversion_without_its_law(self):
+        self.assertSource(self.conversion("n ≡ bits_of w"), "u8::from has no law alpha-from")
+        self.assertWrong("no line `use Rattle.alpha.proofs.U8FromWidth.from.Reads as AlphaFrom`")
+
+    def test_a_law_of_a_conversion_by_hand(self):
+        self.files[LIB] += self.conversion("n ≡ bits_of w")
+        self.laws()
+        self.assertLaw("alpha-from κs a x y s t p q = one_answer p q", "alpha-from κs a x y s t p q = (by hand)", "alpha-from is shown by `one_answer p q`")
+
     def test_a_conversion_that_leaves_a_choice(self):
-        for means in ("n ≤ bits_of w", "bits_of w ≡ n", "n ≡ min n 5"):
+        for means in ("n ≤ bits_of w", "bits_of w ≡ n", "n ≡ min n 5", "n ≡ bits_of w ⊎ Unit {0}", "n ≡ bits_of w → Unit {0}",
+                      "n ≡ bits_of w × n ≡ n", "n ≡ bits_of w ↔ ⊥", "(n ≡ bits_of w) ⊎ Unit {0}", "(k : ℕ) × (n ≡ k)", "n ≡ bits_of w ≡ n"):
             with self.subTest(means):
                 self.files[LIB] = FILES[LIB] + self.conversion(means)
                 self.assertWrong("the conversion to u8 does not say in one equation")
 
     def test_a_conversion_that_says_nothing(self):
         self.assertSource("impl From<Width> for u8 {\n}\n", "an impl of From for u8 without `ghost from_gives`")
+
+    def test_a_second_conversion_that_says_nothing(self):
+        second = "pub enum Deep {\n    One,\n}\n\nimpl From<Deep> for u8 {\n    fn from(d: Deep) -> u8 {\n        5\n    }\n}\n"
+        for text in (self.conversion("n ≡ bits_of w") + second, second + self.conversion("n ≡ bits_of w")):
+            with self.subTest(text):
+                self.files[LIB] = FILES[LIB] + text
+                self.assertWrong("an impl of From for u8 without `ghost from_gives`")
+                self.assertWrong("u8::from is public and states nothing")
+
+    def test_two_conversions_to_one_type(self):
+        self.files[LIB] += self.conversion("n ≡ bits_of w") + self.conversion("n ≡ bits_of w").replace("Width", "Deep")
+        for law in ("alpha-U8FromWidth-from", "alpha-U8FromDeep-from"):
+            self.assertWrong(f"u8::from has no law {law}")
+
+    def test_a_conversion_with_clauses_of_its_own(self):
+        weak = self.conversion("n ≡ bits_of w").replace("-> u8 {", "-> u8\n        ensures { result ≤ 5 }\n    {")
+        self.files[LIB] += weak
+        self.laws()
+        self.assertRight()  # its proof is the prover's matter
+        self.edit(LIB, "ensures { result ≤ 5 }", "requires { w ≡ Five }")
+        self.assertWrong("u8::from is public and states nothing")
+        self.assertWrong("u8::from is public and has a requires")
+
+    def test_a_slice_of_a_type_that_states_nothing(self):
+        text = "impl AsSlice<u8> for Width {\n    ghost items = { λ w. [] };\n\n    fn as_slice(&self) -> &[u8] {\n        &[]\n    }\n}\n"
+        self.assertSource(text, "Width::as_slice is public and states nothing")
+        self.assertWrong("Width::as_slice has no law alpha-as-slice")
+
+    def test_a_trait_in_a_program(self):
+        self.files["crates/listing/src/main.rt"] += self.conversion("n ≡ bits_of w")
+        self.assertWrong("an impl of From, in a program")
 
     def test_a_trait_that_is_not_known(self):
         self.assertSource("impl Shown for Width {\n}\n", "an impl of Shown for Width, a trait which this check does not know")

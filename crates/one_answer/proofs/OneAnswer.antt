@@ -44,12 +44,14 @@ use Rattle.controller.proofs.pin.Reads as ControllerPin
 use Rattle.controller.proofs.chip.Controller.outputs.Reads as ControllerOutputs
 use Rattle.controller.proofs.chip.Controller.read.Reads as ControllerRead
 use Rattle.controller.proofs.kept.Reads as ControllerKept
+use Rattle.locator.proofs.answer.U8FromUnlocated.from.Reads as LocatorFrom
 use Rattle.locator.proofs.locate.Reads as LocatorLocate
 use Rattle.setting.proofs.is_clean.Reads as SettingIsClean
 use Rattle.setting.proofs.registers.Reads as SettingRegisters
 use Rattle.setting.proofs.start.Reads as SettingStart
 use Rattle.tally.proofs.count_frame.Reads as TallyCountFrame
 use Rattle.tally.proofs.tally.Tally.none.Reads as TallyNone
+use Rattle.report.proofs.settings.U8FromRefusal.from.Reads as ReportFrom
 use Rattle.report.proofs.report.Reads as ReportReport
 use Rattle.control.proofs.bits.Control.clear.Reads as ControlClear
 use Rattle.control.proofs.bits.Control.mode.Reads as ControlMode
@@ -77,8 +79,11 @@ use Rattle.multiplexer.proofs.chip.Multiplexer.bus.Reads as MultiplexerBus
 use Rattle.multiplexer.proofs.chip.Multiplexer.fetches.Reads as MultiplexerFetches
 use Rattle.multiplexer.proofs.chip.Multiplexer.shown.Reads as MultiplexerShown
 use Rattle.multiplexer.proofs.chip.Multiplexer.levels.Reads as MultiplexerLevels
+use Rattle.multiplexer.proofs.edge.U8FromEdge.from.Reads as MultiplexerFrom
+use Rattle.record.proofs.kinds.U8FromRefusal.from.Reads as RecordU8FromRefusalFrom
 use Rattle.record.proofs.number.Reads as RecordNumber
 use Rattle.record.proofs.decode.Reads as RecordDecode
+use Rattle.record.proofs.sent.RecordFromArrayU84.from.Reads as RecordRecordFromArrayU84From
 use Rattle.answer.proofs.Answer.done.Reads as AnswerDone
 use Rattle.answer.proofs.Answer.plain.Reads as AnswerPlain
 use Rattle.answer.proofs.Answer.bytes.Reads as AnswerBytes
@@ -96,6 +101,7 @@ use Rattle.text.proofs.owned.Text.new.Reads as TextNew
 use Rattle.text.proofs.owned.Text.of.Reads as TextOf
 use Rattle.text.proofs.owned.Text.room_left.Reads as TextRoomLeft
 use Rattle.text.proofs.owned.Text.put.Reads as TextPut
+use Rattle.text.proofs.owned.TextAsSliceU8.as_slice.Reads as TextAsSlice
 use Rattle.text.proofs.said.Reads as TextSaid
 use Rattle.decimal.proofs.put_decimal.Reads as DecimalPutDecimal
 use Rattle.bodies.proofs.bus_answer.Reads as BodiesBusAnswer
@@ -104,6 +110,7 @@ use Rattle.bodies.proofs.levels_answer.Reads as BodiesLevelsAnswer
 use Rattle.bodies.proofs.located_answer.Reads as BodiesLocatedAnswer
 use Rattle.bench.proofs.step.Bench.fresh.Reads as BenchFresh
 use Rattle.bench.proofs.step.Bench.step.Reads as BenchStep
+use Rattle.replay.proofs.ending.U8FromEnding.from.Reads as ReplayFrom
 use Rattle.replay.proofs.unread_rest.Reads as ReplayUnreadRest
 use Rattle.replay.proofs.replay.Reads as ReplayReplay
 use Rattle.batch.proofs.replay_fresh.Reads as BatchReplayFresh
@@ -116,12 +123,16 @@ use Rattle.report_text.proofs.tell.Reads as ReportTextTell
 use Rattle.line.proofs.calls.Line.fresh.Reads as LineFresh
 use Rattle.line.proofs.calls.Line.accept.Reads as LineAccept
 use Rattle.line.proofs.calls.Line.close.Reads as LineClose
+use Rattle.line.proofs.ending.U8FromCallEnding.from.Reads as LineFrom
 use Rattle.serial_text.proofs.tell_end.Reads as SerialTextTellEnd
 use Rattle.serial_text.proofs.space.Reads as SerialTextSpace
 use Rattle.serial_text.proofs.tell.Reads as SerialTextTell
 use Rattle.cuts_text.proofs.refusal.Reads as CutsTextRefusal
 use Rattle.cuts_text.proofs.is_list.Reads as CutsTextIsList
 use Rattle.cuts_text.proofs.make.Reads as CutsTextMake
+use Rattle.setup_file.proofs.kind.U8FromKind.from.Reads as SetupFileU8FromKindFrom
+use Rattle.setup_file.proofs.kind.KindTryFromU8.try_from.Reads as SetupFileTryFrom
+use Rattle.setup_file.proofs.refusal.U8FromRefusal.from.Reads as SetupFileU8FromRefusalFrom
 use Rattle.setup_reader.proofs.part.Reads as SetupReaderPart
 use Rattle.setup_reader.proofs.open.Reads as SetupReaderOpen
 use Rattle.setup_writer.proofs.write.Reads as SetupWriterWrite
@@ -248,6 +259,9 @@ controller-read κs a x y s t p q = one_answer p q
 pub controller-kept : OneAnswer ControllerKept.Post (λ κs r s. r)
 controller-kept κs a x y s t p q = one_answer p q
 
+pub locator-from : OneAnswer LocatorFrom.Post (λ κs r s. r)
+locator-from κs a x y s t p q = one_answer p q
+
 pub locator-locate : OneAnswer LocatorLocate.Post (λ κs r s. r)
 locator-locate κs a x y s t p q = one_answer p q
 
@@ -265,6 +279,9 @@ tally-count-frame κs a x y s t p q = one_answer p.0 q.0
 
 pub tally-none : OneAnswer TallyNone.Post (λ κs r s. r)
 tally-none κs a x y s t p q = one_answer p q
+
+pub report-from : OneAnswer ReportFrom.Post (λ κs r s. r)
+report-from κs a x y s t p q = one_answer p q
 
 pub report-report : OneAnswer ReportReport.Post (λ κs r s. r beside s.1.0.now beside s.0.now)
 report-report κs a x y s t p q = one_answer p.0 q.0 and one_answer p.1.0 q.1.0 and one_answer p.1.1 q.1.1
@@ -347,11 +364,20 @@ multiplexer-shown κs a x y s t p q = one_answer p q
 pub multiplexer-levels : OneAnswer MultiplexerLevels.Post (λ κs r s. r)
 multiplexer-levels κs a x y s t p q = one_answer p q
 
+pub multiplexer-from : OneAnswer MultiplexerFrom.Post (λ κs r s. r)
+multiplexer-from κs a x y s t p q = one_answer p q
+
+pub record-U8FromRefusal-from : OneAnswer RecordU8FromRefusalFrom.Post (λ κs r s. r)
+record-U8FromRefusal-from κs a x y s t p q = one_answer p q
+
 pub record-number : OneAnswer RecordNumber.Post (λ κs r s. r)
 record-number κs a x y s t p q = one_answer p q
 
 pub record-decode : OneAnswer RecordDecode.Post (λ κs r s. r)
 record-decode κs a x y s t p q = one_answer p q
+
+pub record-RecordFromArrayU84-from : OneAnswer RecordRecordFromArrayU84From.Post (λ κs r s. r)
+record-RecordFromArrayU84-from κs a x y s t p q = one_answer p q
 
 pub answer-done : OneAnswer AnswerDone.Post (λ κs r s. r)
 answer-done κs a x y s t p q = one_answer p q
@@ -404,6 +430,9 @@ text-room-left N fits-N κs a x y s t p q = one_answer p.0 q.0 and one_answer p.
 pub text-put : (N : ℕ) (fits-N : Fits w64 N) → OneAnswer (TextPut.Post N fits-N) (λ κs r s. s.0.now beside s.1.0.now)
 text-put N fits-N κs a x y s t p q = one_answer p.0 q.0 and one_answer p.1 q.1
 
+pub text-as-slice : (N : ℕ) (fits-N : Fits w64 N) → OneAnswer (TextAsSlice.Post N fits-N) (λ κs r s. r.now beside r.ref_ptr beside s.0.now)
+text-as-slice N fits-N κs a x y s t p q = one_answer p.0 q.0 and one_answer p.1.0 q.1.0 and one_answer p.1.1 q.1.1
+
 pub text-said : OneAnswer TextSaid.Post (λ κs r s. r.now beside r.ref_ptr beside s.1.0.now)
 text-said κs a x y s t p q = one_answer p.0 q.0 and one_answer p.1.0 q.1.0 and one_answer p.1.1 q.1.1
 
@@ -427,6 +456,9 @@ bench-fresh κs a x y s t p q = one_answer p q
 
 pub bench-step : OneAnswer BenchStep.Post (λ κs r s. r)
 bench-step κs a x y s t p q = one_answer p q
+
+pub replay-from : OneAnswer ReplayFrom.Post (λ κs r s. r)
+replay-from κs a x y s t p q = one_answer p q
 
 pub replay-unread-rest : OneAnswer ReplayUnreadRest.Post (λ κs r s. r.now beside r.ref_ptr beside s.0.now)
 replay-unread-rest κs a x y s t p q = one_answer p.0 q.0 and one_answer p.1.0 q.1.0 and one_answer p.1.1 q.1.1
@@ -464,6 +496,9 @@ line-accept κs a x y s t p q = one_answer p.0 q.0 and one_answer p.1.0 q.1.0 an
 pub line-close : OneAnswer LineClose.Post (λ κs r s. r)
 line-close κs a x y s t p q = one_answer p q
 
+pub line-from : OneAnswer LineFrom.Post (λ κs r s. r)
+line-from κs a x y s t p q = one_answer p q
+
 pub serial-text-tell-end : OneAnswer SerialTextTellEnd.Post (λ κs r s. r)
 serial-text-tell-end κs a x y s t p q = one_answer p.1 q.1
 
@@ -481,6 +516,15 @@ cuts-text-is-list κs a x y s t p q = one_answer p.0 q.0 and one_answer p.1 q.1
 
 pub cuts-text-make : OneAnswer CutsTextMake.Post (λ κs r s. r beside s.1.0.now)
 cuts-text-make κs a x y s t p q = one_answer p.1.0 q.1.0 and one_answer p.1.1.1.0 q.1.1.1.0
+
+pub setup-file-U8FromKind-from : OneAnswer SetupFileU8FromKindFrom.Post (λ κs r s. r)
+setup-file-U8FromKind-from κs a x y s t p q = one_answer p q
+
+pub setup-file-try-from : OneAnswer SetupFileTryFrom.Post (λ κs r s. r)
+setup-file-try-from κs a x y s t p q = one_answer p q
+
+pub setup-file-U8FromRefusal-from : OneAnswer SetupFileU8FromRefusalFrom.Post (λ κs r s. r)
+setup-file-U8FromRefusal-from κs a x y s t p q = one_answer p q
 
 pub setup-reader-part : OneAnswer SetupReaderPart.Post (λ κs r s. r.now beside r.ref_ptr beside s.0.now)
 setup-reader-part κs a x y s t p q = one_answer p.0 q.0 and one_answer p.1.0 q.1.0 and one_answer p.1.1 q.1.1

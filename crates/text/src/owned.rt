@@ -80,7 +80,11 @@ impl<const N: usize> Text<N> {
 impl<const N: usize> AsSlice<u8> for Text<N> {
     ghost items = { λ t. t };
 
-    fn as_slice(&self) -> &[u8] {
+    fn as_slice(&self) -> &[u8]
+        ensures bytes { result.now ≡ self.now }
+        ensures place { result.ref_ptr ≡ self.entry.ref_ptr }
+        ensures kept { self.exit.now ≡ self.entry.now }
+    {
         &self.bytes[..self.used]
     }
 }

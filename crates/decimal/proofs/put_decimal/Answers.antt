@@ -7,4 +7,4 @@ use Rattle.decimal.proofs.put_decimal.Goals as goal
 pub returns : goal.returns
 returns g c =
     let all = whole c.new-digits.ensures c.put_digits.ensures (length-decimal most_digits c.args.n) in
-    rw (c.as_slice.ensures ∙ all) at c.put.ensures.put
+    rw (c.as_slice.ensures.bytes ∙ all) at c.put.ensures.put
