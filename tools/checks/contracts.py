@@ -91,9 +91,9 @@ def read_all(top, crate):
         wrong += [
             f"{where}:{thing.line}: {thing.kind} {thing.name} holds a reference to be written, so a signature would not show what is lent"
             for thing in reader.declared
-            if thing.public and thing.kind in ("struct", "enum", "union", "type") and holds_written(thing.tokens)
+            if thing.kind in ("struct", "enum", "union", "type") and holds_written(thing.tokens)
         ]
-        wrong += [f"{where}:{line}: {why}" for line, why in check_impls(reader)]
+        wrong += [f"{where}:{line}: {why}" for line, why in (*check_impls(reader), *check_models(crate, reader))]
     return readers, wrong
 
 
@@ -120,6 +120,24 @@ def check_impls(reader):
 def members_of(reader, number):
     """The ghost members of one `impl` by their names, each with its words."""
     return {one.name: " ".join(one.stated.split()) for one in reader.members if one.block == number}
+
+
+def check_models(crate, reader):
+    """Yields what is wrong with what clauses see of a type by its `impl Model`, by its line: it is held to its words, since the laws and the
+    contracts that speak of the type say as much as it shows."""
+    brought = [use for line, text in reader.ghosts for use in antt.uses_of(antt.Item(line, text))]
+    for number, (line, trait, owner) in enumerate(reader.blocks):
+        if trait != "Model":
+            continue
+        if (crate, owner) not in fixed.MODELS:
+            yield line, f"an impl of Model for {owner}; read what clauses see of it, and put its words into tools/checks/fixed.py"
+        for name, due in fixed.MODELS.get((crate, owner), {}).items():
+            said = members_of(reader, number).get(name, "")
+            if said != due:
+                yield line, f"of the type {owner} clauses see `{name} = {due}`, and not `{name} = {said}`"
+            for word in fixed.LIBRARY & set(antt.words_of(due)):
+                if {(use.module, use.item) for use in brought if use.name == word} != {(fixed.PRELUDE, word)}:
+                    yield line, f"{word} has to stand for {fixed.PRELUDE}.{word}, in what clauses see of {owner}"
 
 
 def as_promised(reader, function):

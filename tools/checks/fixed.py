@@ -1,4 +1,5 @@
-"""Texts that may say only one thing: the forms of the laws, what it means that a contract states something, the programs and the streams.
+"""Texts that may say only one thing: the forms of the laws, what it means that a contract states something, what clauses see of a type in
+place of its fields, the programs and the streams.
 
 Nothing else notices when one of these comes to say less: the laws' and the promises' types only name the forms, and the programs' own code
 has no contract. So each is held to its words here, comments and white space apart, and is changed here and there together.
@@ -19,6 +20,11 @@ x beside y = (x, y)
 STATES = """abbrev pub States : {K : Type 0} {D R S : K → Type 0} → (P Q : (κs : K) → D κs → R κs → S κs → Type 0) → Type 0
 States {K} {D} {R} {S} P Q = (κs : K) (a : D κs) (r : R κs) (s : S κs) → P κs a r s → Q κs a r s
 """
+
+# What clauses see of a type that has an `impl Model`, by its crate and its name; whoever changes it, or adds one, reads what it shows.
+MODELS = {("text", "Text"): {"Value": "{ List ℕ }", "view": "{ λ t. take t.used t.bytes }"}}
+# The library's words in these, each under its own name.
+PRELUDE, LIBRARY = "Rattle.std.specs.Prelude", {"List", "ℕ", "take"}
 
 LISTING = r"""#![tactic(auto)]
 

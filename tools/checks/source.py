@@ -245,8 +245,8 @@ class Reader:
         return sum(token.kind == "clause" for token in tokens)
 
     def clauses_read(self):
-        """How many clauses belong to what was read: functions, closures in their bodies, ghost members and ghost fields."""
-        functions = sum(len(function.clauses) + self.clauses_in(function.body) for function in self.functions)
+        """How many clauses belong to what was read: functions, ghost members and ghost fields."""
+        functions = sum(len(function.clauses) for function in self.functions)
         fields = sum(self.clauses_in(thing.tokens) for thing in self.declared if thing.kind == "struct")
         return functions + len(self.members) + fields
 
@@ -318,6 +318,8 @@ class Reader:
         name, *signs = (self.text(place + step) for step in (1, 2, 4))
         if signs != ["=", ";"] or self.tokens[place + 3].kind != "clause":
             raise Unreadable(f"line {self.tokens[place].line}: a ghost member that is no `ghost NAME = {{ .. }};`")
+        if not self.trait:
+            raise Unreadable(f"line {self.tokens[place].line}: a ghost member in no trait's impl")
         self.members.append(Member(self.trait, self.block, owner, name, self.tokens[place].line, self.text(place + 3)))
         return place + 5
 

@@ -1,4 +1,6 @@
 """What tools/check-contracts refuses of public functions and their laws, on a small repository."""
+from unittest import mock
+
 from checks import contracts, fixed
 from tests.contracts_tree import LIB, LAWS, FILES, ContractsTest
 
@@ -126,6 +128,13 @@ class LawTypes(ContractsTest):
     def test_a_type_that_hides_what_is_lent(self):
         self.assertSource("pub struct Lent<'a> {\n    pub bytes: &'a mut [u8],\n}\n", "struct Lent holds a reference")
 
+    def test_a_type_that_hides_what_is_lent_in_a_private_one(self):
+        inner = "struct Inner<'a> {\n    bytes: &'a mut [u8],\n}\n"
+        self.assertSource(inner + "\npub struct Outer<'a> {\n    inner: Inner<'a>,\n}\n", "struct Inner holds a reference")
+
+    def test_a_name_for_what_is_lent(self):
+        self.assertSource("type Lent<'a> = &'a mut [u8];\n", "type Lent holds a reference")
+
 
 class Functions(ContractsTest):
     """Every public function is seen, however it is written."""
@@ -190,6 +199,20 @@ class Functions(ContractsTest):
 
     def test_a_ghost_member_of_another_form(self):
         self.assertSource("impl Width {\n    ghost is: { 1 };\n}\n", "a ghost member that is no `ghost NAME = { .. };`")
+
+    def test_a_ghost_member_of_no_trait(self):
+        for text in ("impl Width {\n    ghost is = { 1 };\n}\n", "ghost is = { 1 };\n"):
+            with self.subTest(text):
+                self.files[LIB] = FILES[LIB] + text
+                self.assertWrong("a ghost member in no trait's impl")
+
+    def test_a_clause_within_a_body(self):
+        closure = "    let same = |y: u8| -> u8\n        ensures { result ≡ y }\n    { y };\n"
+        inner = "    fn same(y: u8) -> u8\n        ensures { result ≡ y }\n    {\n        y\n    }\n"
+        for text in (closure, inner):
+            with self.subTest(text):
+                self.files[LIB] = FILES[LIB] + "fn three(x: u8) -> u8 {\n" + text + "    same(x)\n}\n"
+                self.assertWrong("a clause that belongs to no function")
 
     def test_a_comment_in_a_clause(self):
         self.assertSource("pub fn three() -> u8\n    ensures { λ r. -- }\n r ≡ 1 }\n{\n    1\n}\n", "a clause with a comment")
@@ -280,6 +303,44 @@ class Impls(ContractsTest):
     def test_a_private_struct_that_holds_a_reference(self):
         self.files[LIB] += "struct Part<'a> {\n    bytes: &'a [u8],\n}\n"
         self.assertRight()
+
+
+class Models(ContractsTest):
+    """What clauses see of a type in place of its fields."""
+
+    USE = "ghost use Rattle.std.specs.Prelude.{List, ℕ, take};\n"
+    MODEL = "impl Model for Small {\n    ghost Value = { List ℕ };\n\n    ghost view = { λ t. take t.used t.bytes };\n\n    ghost invariant = { λ t. t.used ≤ 9 };\n}\n"
+
+    def setUp(self):
+        super().setUp()
+        known = mock.patch.dict(fixed.MODELS, {("alpha", "Small"): fixed.MODELS["text", "Text"]})
+        known.start()
+        self.addCleanup(known.stop)
+        self.files[LIB] += self.USE + self.MODEL
+
+    def test_its_words(self):
+        self.assertRight()
+        self.edit(LIB, "λ t. t.used ≤ 9", "λ t. t.used ≤ 7")
+        self.assertRight()
+
+    def test_a_view_that_shows_nothing(self):
+        for old, new in (("λ t. take t.used t.bytes", "λ s. 0"), ("λ t. take t.used t.bytes", "λ t. take 0 t.bytes"), ("List ℕ", "Unit")):
+            with self.subTest(new):
+                self.files[LIB] = FILES[LIB] + self.USE + self.MODEL
+                self.edit(LIB, f"= {{ {old} }}", f"= {{ {new} }}")
+                self.assertWrong("of the type Small clauses see `")
+
+    def test_a_view_by_other_words_of_the_same_name(self):
+        for old, new in (("{List, ℕ, take}", "{List, ℕ, drop as take}"), ("{List, ℕ, take}", "{List, ℕ}"),
+                         (self.USE, self.USE + "ghost use Rattle.alpha.specs.Mine.{take};\n")):
+            with self.subTest(new):
+                self.files[LIB] = FILES[LIB] + self.USE + self.MODEL
+                self.edit(LIB, old, new)
+                self.assertWrong("take has to stand for Rattle.std.specs.Prelude.take")
+
+    def test_a_type_that_was_not_read(self):
+        self.files[LIB] += self.MODEL.replace("Small", "Large")
+        self.assertWrong("an impl of Model for Large; read what clauses see of it")
 
 
 class Handed(ContractsTest):
