@@ -108,6 +108,8 @@ use Rattle.bodies.proofs.bus_answer.Reads as BodiesBusAnswer
 use Rattle.bodies.proofs.shown_answer.Reads as BodiesShownAnswer
 use Rattle.bodies.proofs.levels_answer.Reads as BodiesLevelsAnswer
 use Rattle.bodies.proofs.located_answer.Reads as BodiesLocatedAnswer
+use Rattle.bodies.proofs.told.ToldCycleFromCycle.from.Reads as BodiesToldCycleFromCycleFrom
+use Rattle.bodies.proofs.told.ToldLevelsFromLevelled.from.Reads as BodiesToldLevelsFromLevelledFrom
 use Rattle.bench.proofs.step.Bench.fresh.Reads as BenchFresh
 use Rattle.bench.proofs.step.Bench.step.Reads as BenchStep
 use Rattle.replay.proofs.ending.U8FromEnding.from.Reads as ReplayFrom
@@ -450,6 +452,12 @@ bodies-levels-answer κs a x y s t p q = one_answer p q
 
 pub bodies-located-answer : OneAnswer BodiesLocatedAnswer.Post (λ κs r s. r)
 bodies-located-answer κs a x y s t p q = one_answer p q
+
+pub bodies-ToldCycleFromCycle-from : OneAnswer BodiesToldCycleFromCycleFrom.Post (λ κs r s. r)
+bodies-ToldCycleFromCycle-from κs a x y s t p q = one_answer p q
+
+pub bodies-ToldLevelsFromLevelled-from : OneAnswer BodiesToldLevelsFromLevelledFrom.Post (λ κs r s. r)
+bodies-ToldLevelsFromLevelled-from κs a x y s t p q = one_answer p q
 
 pub bench-fresh : OneAnswer BenchFresh.Post (λ κs r s. r)
 bench-fresh κs a x y s t p q = one_answer p q
