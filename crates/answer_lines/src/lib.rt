@@ -3,4 +3,4 @@
 
 mod lines;
 
-pub use lines::{MARKED, put_answers};
+pub use lines::{MARKED, add_answers, put_answers};

@@ -3,12 +3,13 @@ ghost use Rattle.std.specs.Prelude.{◌≡◌, ◌+◌, ◌≤◌, leb, length};
 ghost use Rattle.basics.specs.Lay.{laid_at, behind_of, put_at, Writes};
 
 // Lays the bytes of src where the caller has shown that they have room.
-#[tactic(auto, using(crate::proofs::Laying::part_laid))]
 fn lay(dst: &mut [u8], at: usize, src: &[u8])
     requires { at + length src.now ≤ length dst.old }
     ensures { dst.new ≡ laid_at dst.old at src.now }
 {
-    dst[at..at + src.len()].copy_from_slice(src);
+    for i in 0..src.len() {
+        dst[at + i] = src[i];
+    }
 }
 
 // Whether count bytes from at on have room in a buffer of room bytes.

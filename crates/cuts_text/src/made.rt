@@ -16,7 +16,7 @@ use text::Text;
 pub const TEXT: usize = rooms_text::TEXT;
 
 // The line after a call, how many bytes of the list said it, and its text.
-#[derive(Drop)]
+#[derive(Clone, Copy)]
 pub struct Made {
     pub line: Line,
     pub used: usize,

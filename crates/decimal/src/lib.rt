@@ -2,10 +2,12 @@
 #![tactic(auto)]
 
 ghost use Rattle.std.specs.Prelude.{◌≡◌, [], ◌∷◌, ◌+◌, ◌%◌};
+ghost use Rattle.basics.specs.Lay.{Writes, behind_of, put_at};
 ghost use Rattle.decimal.specs.Decimal.{decimal_in, decimal_of, most_digits};
 ghost use Rattle.text.specs.Owned.{appended};
 ghost use Rattle.text.specs.private.Adds.{Adds};
 
+use basics::put;
 use std::convert::AsSlice;
 use text::Text;
 
@@ -32,11 +34,27 @@ fn put_digits(digits: &mut Text<DIGITS>, n: u64, k: usize)
     digits.put(&last_digit(n));
 }
 
+// All digits of n.
+fn all_digits(n: u64) -> Text<DIGITS>
+    ensures { result ≡ decimal_of n }
+{
+    let mut digits = Text::new();
+    put_digits(&mut digits, n, DIGITS);
+    digits
+}
+
+// Lays the digits of n from at on and gives the place behind them; where they have no room, changes nothing and gives at back.
+pub fn put_decimal(dst: &mut [u8], at: usize, n: u64) -> usize
+    ensures place { result ≡ behind_of dst.old at (decimal_of n) }
+    ensures laid { dst.new ≡ put_at dst.old at (decimal_of n) }
+    ensures next { Writes dst.old dst.new at result (decimal_of n) }
+{
+    put(dst, at, all_digits(n).as_slice())
+}
+
 // Puts the digits of n at the end of a text; where they have no room, changes nothing.
-pub fn put_decimal<const N: usize>(text: &mut Text<N>, n: u64)
+pub fn add_decimal<const N: usize>(text: &mut Text<N>, n: u64)
     ensures { text.new ≡ appended N text.old (decimal_of n) }
 {
-    let mut digits = Text::<DIGITS>::new();
-    put_digits(&mut digits, n, DIGITS);
-    text.put(digits.as_slice());
+    text.put(all_digits(n).as_slice());
 }

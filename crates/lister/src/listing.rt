@@ -4,7 +4,7 @@ ghost use Rattle.text.specs.private.Adds.{Adds};
 ghost use Rattle.lister.specs.Listing.{end_of, batch_listing_of, listing_of};
 ghost use Rattle.lister.specs.Lengths.{listing_length};
 
-use answer_lines::{MARKED, put_answers};
+use answer_lines::{MARKED, add_answers};
 use batch::replay_fresh;
 use text::{PER_LINE, Text};
 
@@ -32,7 +32,7 @@ fn batch_listing(batch: &[u8]) -> Text<TEXT>
     let mut out = [0u8; batch::OUTPUT];
     let replayed = replay_fresh(batch, &mut out);
     let mut text = Text::new();
-    put_answers(&mut text, &out[..PER_LINE * replayed.answers]);
+    add_answers(&mut text, &out[..PER_LINE * replayed.answers]);
     put_end(&mut text, u8::from(replayed.ending));
     text
 }

@@ -4,7 +4,7 @@ ghost use Rattle.report.specs.Report.{row};
 ghost use Rattle.text.specs.private.Adds.{Adds};
 ghost use Rattle.report_text.specs.Lines.{number_of, line_of, lines_of};
 
-use decimal::put_decimal;
+use decimal::add_decimal;
 use report::ROW;
 use text::Text;
 
@@ -12,7 +12,7 @@ use text::Text;
 fn put_number<const N: usize>(text: &mut Text<N>, n: u64, last: bool)
     ensures { Adds N text.old text.new (number_of n last) }
 {
-    put_decimal(text, n);
+    add_decimal(text, n);
     text.put(if last { b"\n" } else { b" " });
 }
 

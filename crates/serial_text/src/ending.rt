@@ -2,7 +2,7 @@
 ghost use Rattle.std.specs.Prelude.{◌≡◌};
 ghost use Rattle.serial_text.specs.Ending.{last_length, last_text_of};
 
-use decimal::{DIGITS, put_decimal};
+use decimal::{DIGITS, add_decimal};
 use line::Line;
 use text::Text;
 
@@ -16,7 +16,7 @@ pub fn tell_end(before: Line) -> Text<LAST>
 {
     let called = before.close();
     let mut text = Text::of(b"end ");
-    put_decimal(&mut text, u64::from(u8::from(called.ending)));
+    add_decimal(&mut text, u64::from(u8::from(called.ending)));
     text.put(b"\n");
     text
 }

@@ -2,7 +2,7 @@
 ghost use Rattle.std.specs.Prelude.{◌≡◌, replicate};
 ghost use Rattle.serial_text.specs.Turn.{most_cut, turn_length, told_of, turn_text_of};
 
-use answer_lines::{MARKED, put_answers};
+use answer_lines::{MARKED, add_answers};
 use line::{CallEnding, Line};
 use text::{PER_LINE, Text};
 
@@ -26,7 +26,7 @@ pub fn space() -> [u8; CUT]
 }
 
 // The line after a cut, how the call ended, the bytes taken, and the text.
-#[derive(Drop)]
+#[derive(Clone, Copy)]
 pub struct Told {
     pub line: Line,
     pub ending: CallEnding,
@@ -44,7 +44,7 @@ pub fn tell(before: Line, cut: &[u8]) -> Told
     let mut out = [0u8; OUTPUT];
     let called = before.accept(cut, &mut out);
     let mut text = Text::new();
-    put_answers(&mut text, &out[..PER_LINE * called.answers]);
+    add_answers(&mut text, &out[..PER_LINE * called.answers]);
     Told {
         line: called.line,
         ending: called.ending,

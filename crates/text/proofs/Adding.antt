@@ -3,16 +3,11 @@ use Prim.Native.Nat.{ℕ, ◌+◌, ◌≤◌, ◌<◌}
 use mathlib.Core.Path.{◌≡◌, refl, sym, ap, ◌∙◌}
 use mathlib.Core.List.{List, [], ◌++◌, append_assoc, append-nil}
 use native.Mathlib.Omega.{arith}
-use lib.ListN.{length, take, length-append}
-use lib.Seq.{length-take-le}
+use lib.ListN.{length, length-append}
 use borrow.Author.Tests.{le-leb, lt-leb}
 use Rattle.basics.proofs.Cases.{if_yes, if_no}
 use Rattle.text.specs.Owned.{fits, appended}
 use Rattle.text.specs.private.Adds.{Adds}
-
--- the bytes of a text are as many as are used
-pub length-used : {room used : ℕ} (bytes text : List ℕ) → length bytes ≡ room → used ≤ room → take used bytes ≡ text → length text ≡ used
-length-used {room} {used} bytes text l h e = sym (ap length e) ∙ length-take-le used bytes (omega arith)
 
 module _ (room : ℕ) (t w : List ℕ) where
   -- what has room is put at the end, and what has none is not

@@ -1,11 +1,10 @@
 -- Laws of hex digits. Assumes nothing.
-use Prim.Native.Nat.{ℕ, ◌+◌, ◌*◌, ◌<◌, ◌≤◌}
-use mathlib.Core.Path.{◌≡◌, refl, ap}
+use Prim.Native.Nat.{ℕ, ◌+◌, ◌*◌, ◌<◌}
+use mathlib.Core.Path.{◌≡◌, refl, ap, ◌∙◌}
 use mathlib.Core.List.{List, [], ◌∷◌, ◌++◌}
 use native.Mathlib.Omega.{arith}
-use lib.ListN.{length, get_or, drop}
-use Rattle.std.proofs.Common.{add-one, drop-cons}
-use Rattle.std.proofs.lemmas.List.{drop_all}
+use lib.ListN.{length, get_or, take}
+use Rattle.basics.proofs.Laying.{take_next}
 use Rattle.text.specs.Hex.{pair_of, hex_of}
 
 -- two digits for each byte
@@ -18,11 +17,13 @@ unfolding hex_of pair_of
 length-hex [] = refl
 length-hex (b ∷ bs) = omega (arith, length-hex bs)
 
--- the digits of one byte, and then those of the bytes behind it
-pub hex-drop : (src : List ℕ) (i : ℕ) → i < length src → hex_of (drop i src) ≡ pair_of (get_or src i 0) ++ hex_of (drop (i + 1) src)
-unfolding hex_of
-hex-drop src i h = rw (add-one, drop-cons src i 0 h)
+-- the digits of joined bytes are the digits joined
+pub hex-append : (xs bs : List ℕ) → hex_of (xs ++ bs) ≡ hex_of xs ++ hex_of bs
+unfolding hex_of pair_of
+hex-append [] bs = refl
+hex-append (x ∷ xs) bs = ap (λ (l : List ℕ). pair_of x ++ l) (hex-append xs bs)
 
-pub hex_none : (src : List ℕ) (i : ℕ) → length src ≤ i → hex_of (drop i src) ≡ []
-unfolding hex_of
-hex_none src i h = ap hex_of (drop_all i src h)
+-- the digits of one byte more
+pub hex-take : (src : List ℕ) (i : ℕ) → i < length src → hex_of (take (i + 1) src) ≡ hex_of (take i src) ++ pair_of (get_or src i 0)
+unfolding hex_of pair_of
+hex-take src i h = ap hex_of (take_next src i h) ∙ hex-append (take i src) (get_or src i 0 ∷ [])

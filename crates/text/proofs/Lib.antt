@@ -1,3 +1,4 @@
 pub mod Hexing
 pub mod Lining
 pub mod Adding
+pub mod Holding

@@ -1,15 +1,32 @@
 -- Laws of lines. Assumes nothing.
-use Prim.Native.Nat.{ℕ, zero, suc, ◌+◌, ◌*◌, ◌/◌, ◌<◌, ◌≤◌, min}
+use Prim.Native.Nat.{ℕ, zero, suc, ◌+◌, ◌-◌, ◌*◌, ◌/◌, ◌≤◌, ◌<◌, min}
 use mathlib.Core.Path.{◌≡◌, refl, sym, ap, ap₂, ◌∙◌}
 use mathlib.Core.Logic.{⊎_elim}
-use mathlib.Core.List.{List, [], ◌++◌, append-nil}
+use mathlib.Core.List.{List, [], ◌++◌, append_assoc, append-nil}
+use native.Mathlib.Numerals.{add-one}
 use native.Mathlib.Omega.{arith}
 use lib.ListN.{length, take, drop, length-append, length-take, length-drop}
-use lib.Seq.{take_all, take_at, drop_at}
-use Rattle.std.proofs.lemmas.List.{nil_from_length}
+use lib.Seq.{drop-drop, take_all, take_at, drop_at}
+use Rattle.basics.specs.Lay.{Writes}
+use Rattle.basics.proofs.Laying.{then-writes}
 use Rattle.basics.proofs.Tests.{lt-or-ge}
 use Rattle.text.specs.Lines.{per_line, line_of, rows_of, line_count, lines_of}
 use Rattle.text.proofs.Hexing.{length-hex}
+
+-- the bytes of a line
+abbrev pub row_at : ℕ → List ℕ → List ℕ
+row_at i bytes = take per_line (drop (per_line * i) bytes)
+
+-- a part of the bytes that reaches as far as a line can is the line's
+pub row-part : (bytes : List ℕ) (i to : ℕ) → per_line * i ≤ length bytes → to ≡ min (per_line * i + per_line) (length bytes)
+    → take (to - per_line * i) (drop (per_line * i) bytes) ≡ row_at i bytes
+row-part bytes i to h e =
+    let rest = drop (per_line * i) bytes in
+    let long : length rest ≡ length bytes - per_line * i = length-drop (per_line * i) bytes in
+    ⊎_elim
+    (λ (short : length bytes < per_line * i + per_line). take_all (to - per_line * i) rest (omega arith) ∙ sym (take_all per_line rest (omega arith)))
+    (λ (full : per_line * i + per_line ≤ length bytes). ap (λ (k : ℕ). take k rest) (let k : to - per_line * i ≡ per_line = omega arith in k))
+    (lt-or-ge (length bytes) (per_line * i + per_line))
 
 module _ (f : List ℕ → List ℕ) where
   -- no line, and a first line before the others
@@ -21,13 +38,22 @@ module _ (f : List ℕ → List ℕ) where
   unfolding rows_of
   rows-first n bytes = refl
 
+  -- one line more
+  rows-suc : (n : ℕ) (bytes : List ℕ) → rows_of f (suc n) bytes ≡ rows_of f n bytes ++ f (row_at n bytes)
+  unfolding rows_of
+  rows-suc zero bytes = append-nil (f (row_at 0 bytes))
+  rows-suc (suc n) bytes =
+      let k : per_line + per_line * n ≡ per_line * suc n = omega arith in
+      rw (← k, ← drop-drop (per_line * n) per_line bytes, append_assoc) (ap (λ (l : List ℕ). f (row_at 0 bytes) ++ l) (rows-suc n (drop per_line bytes)))
+
+  -- a turn of a loop over the lines
+  pub writes-row : {t u s : List ℕ} {p q r : ℕ} {part : List ℕ} (i : ℕ) (bytes : List ℕ) → Writes t u p q (rows_of f i bytes) → Writes u s q r (f part)
+      → part ≡ row_at i bytes → Writes t s p r (rows_of f (i + 1) bytes)
+  writes-row i bytes before row e = rw (add-one, rows-suc i bytes, ← e) (then-writes before row)
+
   -- the bytes of a whole line, and then those behind it
   rows-whole : (n : ℕ) (chunk rest : List ℕ) → length chunk ≡ per_line → rows_of f (suc n) (chunk ++ rest) ≡ f chunk ++ rows_of f n rest
   rows-whole n chunk rest h = rows-first n (chunk ++ rest) ∙ ap₂ (λ a b. f a ++ rows_of f n b) (take_at chunk rest per_line h) (drop_at chunk rest per_line h)
-
-  -- the bytes of a line, and no others
-  rows-last : (chunk : List ℕ) → length chunk ≤ per_line → rows_of f 1 chunk ≡ f chunk ++ []
-  rows-last chunk h = rows-first 0 chunk ∙ ap₂ (λ a b. f a ++ b) (take_all per_line chunk h) (rows_none (drop per_line chunk))
 
   -- what a loop over whole lines takes first
   pub rows-exact : (bytes chunk rest : List ℕ) → bytes ≡ chunk ++ rest → length chunk ≡ per_line
@@ -41,32 +67,6 @@ module _ (f : List ℕ → List ℕ) where
   rows-few bytes h =
       let none : length bytes / per_line ≡ 0 = omega arith in
       ap (λ (n : ℕ). rows_of f n bytes) none ∙ rows_none bytes
-
-  -- and one over lines of which the last may be shorter
-  pub rows-chunk : (bytes chunk rest : List ℕ) → bytes ≡ chunk ++ rest → length chunk ≡ min per_line (length bytes) → 0 < length bytes
-      → rows_of f (line_count (length bytes)) bytes ≡ f chunk ++ rows_of f (line_count (length rest)) rest
-  rows-chunk bytes chunk rest e h some =
-      let long : length bytes ≡ length chunk + length rest = ap length e ∙ length-append chunk rest in
-      ⊎_elim
-      (λ (short : length bytes < per_line).
-      let none : rest ≡ [] = nil_from_length rest (omega arith) in
-      let one : line_count (length bytes) ≡ 1 = omega arith in
-      let same : bytes ≡ chunk = e ∙ ap (λ l. chunk ++ l) none ∙ append-nil chunk in
-      ap₂ (rows_of f) one same ∙ rows-last chunk (omega arith) ∙ ap (λ l. f chunk ++ l) (sym (ap (λ l. rows_of f (line_count (length l)) l) none ∙ rows_none [])))
-      (λ (full : per_line ≤ length bytes).
-      let n : line_count (length bytes) ≡ suc (line_count (length rest)) = omega arith in
-      ap₂ (rows_of f) n e ∙ rows-whole (line_count (length rest)) chunk rest (omega arith))
-      (lt-or-ge (length bytes) per_line)
-
--- the same of bytes on lines
-pub lines-chunk : (bytes chunk rest : List ℕ) → bytes ≡ chunk ++ rest → length chunk ≡ min per_line (length bytes) → 0 < length bytes
-    → lines_of bytes ≡ line_of chunk ++ lines_of rest
-unfolding lines_of
-lines-chunk bytes chunk rest e h some = rows-chunk line_of bytes chunk rest e h some
-
-pub lines_none : (bytes : List ℕ) → length bytes ≡ 0 → lines_of bytes ≡ []
-unfolding lines_of
-lines_none bytes h = ap lines_of (nil_from_length bytes h) ∙ rows_none line_of []
 
 -- how long lines are
 pub length-line : (bytes : List ℕ) → length (line_of bytes) ≡ 2 * length bytes + 1

@@ -6,6 +6,7 @@ mod lines;
 mod owned;
 mod speech;
 
-pub use lines::{LINE, PER_LINE};
+pub use hex::put_hex;
+pub use lines::{LINE, PER_LINE, put_lines};
 pub use owned::Text;
 pub use speech::said;

@@ -1,12 +1,17 @@
 // Texts that own their bytes.
-ghost use Rattle.std.specs.Prelude.{◌≡◌, ◌+◌, ◌-◌, ◌*◌, ◌≤◌, List, [], ℕ, leb, length, take};
+ghost use Rattle.std.specs.Prelude.{◌≡◌, ◌+◌, ◌-◌, List, [], ℕ, length, take};
+ghost use Rattle.text.specs.Hex.{hex_of};
+ghost use Rattle.text.specs.Lines.{lines_of};
 ghost use Rattle.text.specs.Owned.{appended};
 
+use crate::hex::put_hex;
+use crate::lines::put_lines;
+use basics::put;
 use std::convert::AsSlice;
 use std::marker::Model;
 
-// A text of at most N bytes.
-#[derive(Drop)]
+// A text of at most N bytes. Behind those that are used stand zeros.
+#[derive(Clone, Copy)]
 pub struct Text<const N: usize> {
     bytes: [u8; N],
     used: usize,
@@ -14,11 +19,18 @@ pub struct Text<const N: usize> {
 
 // Clauses see its bytes.
 impl<const N: usize> Model for Text<N> {
+    ghost use Rattle.std.specs.Prelude.{ℕ, ◌-◌, List, ◌++◌, length, take, replicate};
+    ghost use Rattle.text.specs.Owned.{Holds};
+
     ghost Value = { List ℕ };
 
     ghost view = { λ t. take t.used t.bytes };
 
-    ghost invariant = { λ t. t.used ≤ N };
+    ghost invariant = { λ t. Holds N t.bytes t.used };
+
+    ghost inverse = { λ l. record { bytes = l ++ replicate (N - length l) 0; used = length l } };
+
+    ghost inverse_ok = { λ t h i. record { bytes = h.filled i; used = h.count i } };
 }
 
 impl<const N: usize> Text<N> {
@@ -51,28 +63,28 @@ impl<const N: usize> Text<N> {
         N - self.used
     }
 
-    // Whether the digits of so many bytes, and so many ends of lines, have room.
-    pub(crate) fn has_room_for(&self, bytes: usize, ends: usize) -> bool
-        ensures { result ≡ leb (length self.now + (2 * bytes + ends)) N }
-    {
-        let left = self.room_left();
-        if left / 2 < bytes {
-            return false;
-        }
-        ends <= left - 2 * bytes
-    }
-
     // Puts bytes at the end; where they have no room, changes nothing.
     pub fn put(&mut self, src: &[u8])
         ensures put { self.new ≡ appended N self.old src.now }
         ensures kept { src.exit.now ≡ src.entry.now }
     {
-        if src.len() <= N - self.used {
-            let end = self.used + src.len();
-            let bytes = &mut self.bytes[..];
-            bytes[self.used..end].copy_from_slice(src);
-            self.used = end;
-        }
+        self.used = put(&mut self.bytes, self.used, src);
+    }
+
+    // Puts the digits of bytes at the end, one pair after the other; where they have no room, changes nothing.
+    pub fn put_hex(&mut self, src: &[u8])
+        ensures put { self.new ≡ appended N self.old (hex_of src.now) }
+        ensures kept { src.exit.now ≡ src.entry.now }
+    {
+        self.used = put_hex(&mut self.bytes, self.used, src);
+    }
+
+    // Puts the lines of bytes at the end; where they have no room, changes nothing.
+    pub fn put_lines(&mut self, bytes: &[u8])
+        ensures put { self.new ≡ appended N self.old (lines_of bytes.now) }
+        ensures kept { bytes.exit.now ≡ bytes.entry.now }
+    {
+        self.used = put_lines(&mut self.bytes, self.used, bytes);
     }
 }
 

@@ -1,25 +1,30 @@
-use mathlib.Core.Path.{◌∙◌}
+use Prim.Native.Nat.{◌+◌, ◌*◌, ◌/◌}
 use native.Mathlib.Omega.{arith}
-use borrow.Author.Rules.{rules}
-use Rattle.text.proofs.Adding.{turned, ended}
-use Rattle.text.proofs.Lining.{rows-exact, rows-few}
-use Rattle.answer_lines.specs.Marked.{marked_of}
-use Rattle.answer_lines.proofs.Lined.{puts-lines, puts-none}
+use lib.ListN.{length}
+use Rattle.basics.proofs.Laying.{told-room, told-full}
+use Rattle.text.specs.Lines.{per_line}
+use Rattle.answer_lines.specs.Marked.{marked_length}
+use Rattle.answer_lines.proofs.Lined.{puts-lines, puts-nothing}
 use Rattle.answer_lines.proofs.lines.put_answers.Goals as goal
 
-pub returns-then-room_left-answers-clause-put : goal.returns-then-room_left-answers-clause-put
-returns-then-room_left-answers-clause-put g c =
-    puts-none g.row.N c.args.text.now c.args.answers.now (omega (arith, c.room_left.ensures.full))
+pub returns-then-text-n : goal.returns-then-text-n
+returns-then-text-n c =
+    let a = c.args in
+    let t = puts-nothing a.text.now a.at a.answers.now (omega arith) in
+    record { place = t.0; laid = t.1.0; kept = t.1.1.0; next = t.1.1.1 }
 
-pub loop-answer-preserved : goal.loop-answer-preserved
-loop-answer-preserved g c =
-    let so_far = c.loop-answer.invariant in
-    let steps = c.in-Some.ensures.steps in
-    let chunk = rw so_far.2 at steps.1 in
-    (search rules, tt, steps.0 ∙ so_far.2, turned so_far.3 (rows-exact marked_of _ _ _ chunk.0 chunk.1) c.put_line.ensures)
+pub returns-then-has_room : goal.returns-then-has_room
+returns-then-has_room c =
+    let a = c.args in
+    let n = length a.answers.now / per_line in
+    let room = told-room (a.at + marked_length * n) (length a.text.now) c.has_room.ensures c.if-has_room.true in
+    let t = puts-lines a.text.now a.at a.answers.now room c.lines.ensures in
+    record { place = t.0; laid = t.1.0; kept = t.1.1.0; next = t.1.1.1 }
 
-pub returns-clause-put : goal.returns-clause-put
-returns-clause-put g c =
-    let so_far = c.loop-answer.invariant in
-    let few = rw so_far.2 at c.in-None.ensures.steps.1.0 in
-    puts-lines g.row.N c.args.text.now c.args.answers.now (omega (arith, c.room_left.ensures.full)) (ended so_far.3 (rows-few marked_of _ few))
+pub returns : goal.returns
+returns c =
+    let a = c.args in
+    let n = length a.answers.now / per_line in
+    let full = told-full (a.at + marked_length * n) (length a.text.now) c.has_room.ensures c.if-has_room.false in
+    let t = puts-nothing a.text.now a.at a.answers.now full in
+    record { place = t.0; laid = t.1.0; kept = t.1.1.0; next = t.1.1.1 }

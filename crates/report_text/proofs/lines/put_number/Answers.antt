@@ -6,7 +6,7 @@ use Rattle.report_text.proofs.lines.put_number.Goals.{then-last, else-last}
 
 pub returns : goal.returns
 returns g c =
-    let digits = adds _ _ _ c.put_decimal.ensures in
+    let digits = adds _ _ _ c.add_decimal.ensures in
     let behind = adds _ _ _ c.put.ensures.put in
     elim c.if-last.branch [
       | then-last w ↦ ends-line _ _ digits w.if-last.true (ap (λ b. b.now) w.put-is) behind

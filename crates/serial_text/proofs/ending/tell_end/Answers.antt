@@ -9,6 +9,6 @@ use Rattle.serial_text.proofs.ending.tell_end.Goals as goal
 pub returns-clause-text : goal.returns-clause-text
 unfolding close_of last_text_of
 returns-clause-text c =
-    let digits = rw (c.from-2.ensures, c.from.ensures, c.close-called.ensures) at c.put_decimal.ensures in
+    let digits = rw (c.from-2.ensures, c.from.ensures, c.close-called.ensures) at c.add_decimal.ensures in
     let all = then-adds (then-adds (adds _ _ end_word c.of-text.ensures.put) (adds _ _ _ digits)) (adds _ _ newline c.put.ensures.put) in
     whole refl all (last-has-room c.args.before)

@@ -13,14 +13,14 @@ slice_bounds-out-end c =
     let w = out_within _ _ c.accept-called.ensures.answer c.accept-called.ensures.output in
     omega (arith, w.0, w.1)
 
-pub slice_bounds-put_answers-end : goal.slice_bounds-put_answers-end
-slice_bounds-put_answers-end c =
+pub slice_bounds-add_answers-end : goal.slice_bounds-add_answers-end
+slice_bounds-add_answers-end c =
     let w = out_within _ _ c.accept-called.ensures.answer c.accept-called.ensures.output in
     sym (length-take-le _ _ (omega (arith, w.0, w.1)))
 
 pub returns-clause-text : goal.returns-clause-text
 returns-clause-text c =
-    told_text c.args.before c.args.cut.now c.new-text.ensures c.accept-called.ensures.answer c.accept-called.ensures.output c.put_answers.ensures.put
+    told_text c.args.before c.args.cut.now c.new-text.ensures c.accept-called.ensures.answer c.accept-called.ensures.output c.add_answers.ensures.put
 
 pub returns-clause-told : goal.returns-clause-told
 returns-clause-told c = told c.args.before c.args.cut.now c.accept-called.ensures.answer (returns-clause-text c)

@@ -5,7 +5,7 @@ use Rattle.std.specs.Slice.Iter.{chunks_exact_rest, chunks_exact_size}
 use Rattle.text.specs.Lines.{per_line, rows_of}
 use Rattle.text.proofs.Adding.{SoFar}
 use Rattle.answer_lines.specs.Marked.{marked_of}
-use Rattle.answer_lines.proofs.lines.put_answers.Given as goal
+use Rattle.answer_lines.proofs.lines.add_answers.Given as goal
 
 abbrev pub invariant-loop-answer : goal.invariant-loop-answer
 invariant-loop-answer g l =
