@@ -1,5 +1,5 @@
 // The listing of a batch.
-ghost use Rattle.std.specs.Prelude.{◌≡◌, ◌≤◌};
+ghost use Rattle.std.specs.Prelude.{◌≡◌, ◌≤◌, []};
 ghost use Rattle.text.specs.private.Adds.{Adds};
 ghost use Rattle.lister.specs.Listing.{end_of, batch_listing_of, listing_of};
 ghost use Rattle.lister.specs.Lengths.{listing_length};
@@ -25,16 +25,15 @@ fn put_end(text: &mut Text<TEXT>, ending: u8)
     text.put(&[b'e', b'n', b'd', b' ', b'0' + ending, b'\n']);
 }
 
-// The listing of a batch, on fresh chips and with room for every answer.
-fn batch_listing(batch: &[u8]) -> Text<TEXT>
-    ensures { result ≡ batch_listing_of batch.now }
+// The listing of a batch, on fresh chips and with room for every answer, in a text that holds nothing yet.
+fn batch_listing(text: &mut Text<TEXT>, batch: &[u8])
+    requires { text.old ≡ [] }
+    ensures { text.new ≡ batch_listing_of batch.now }
 {
     let mut out = [0u8; batch::OUTPUT];
     let replayed = replay_fresh(batch, &mut out);
-    let mut text = Text::new();
-    add_answers(&mut text, &out[..PER_LINE * replayed.answers]);
-    put_end(&mut text, u8::from(replayed.ending));
-    text
+    add_answers(text, &out[..PER_LINE * replayed.answers]);
+    put_end(text, u8::from(replayed.ending));
 }
 
 // The text for an input.
@@ -43,8 +42,11 @@ pub fn list(input: &[u8]) -> Text<TEXT>
     ensures text { result ≡ listing_of input.now }
     ensures kept { input.exit.now ≡ input.entry.now }
 {
+    let mut text = Text::new();
     if INPUT < input.len() {
-        return Text::of(b"too long\n");
+        text.put(b"too long\n");
+        return text;
     }
-    batch_listing(input)
+    batch_listing(&mut text, input);
+    text
 }

@@ -1,6 +1,7 @@
 // A replay into an output of a chosen size, shown byte for byte.
 ghost use Rattle.std.specs.Prelude.{◌≡◌, ◌≤◌, length};
 ghost use Rattle.batch.specs.Fresh.{most_bytes, most_output};
+ghost use Rattle.text.specs.private.Adds.{Adds};
 ghost use Rattle.rooms_text.specs.Lengths.{room_text_length};
 ghost use Rattle.rooms_text.specs.Rooms.{room_of, counts_of, shown_of, room_text_of};
 
@@ -42,10 +43,10 @@ pub fn counts(ending: u8, taken: u16, answers: u16) -> [u8; 8]
 }
 
 // A batch replayed on fresh chips into an output: its counts, and then the whole output.
-fn shown(batch: &[u8], out: &mut [u8]) -> Text<TEXT>
+fn shown(text: &mut Text<TEXT>, batch: &[u8], out: &mut [u8])
     requires batch_len_bound { length batch.now ≤ most_bytes }
     requires out_len_bound { length out.old ≤ most_output }
-    ensures { result ≡ shown_of batch.now out.old }
+    ensures { Adds TEXT text.old text.new (shown_of batch.now out.old) }
 {
     let replayed = replay_fresh(batch, out);
     let told = counts(
@@ -53,10 +54,8 @@ fn shown(batch: &[u8], out: &mut [u8]) -> Text<TEXT>
         replayed.taken as u16,
         replayed.answers as u16,
     );
-    let mut text = Text::new();
     text.put_lines(&told);
     text.put_lines(out);
-    text
 }
 
 // The text for an input.
@@ -65,12 +64,16 @@ pub fn room(input: &[u8]) -> Text<TEXT>
     ensures text { result ≡ room_text_of input.now }
     ensures kept { input.exit.now ≡ input.entry.now }
 {
+    let mut text = Text::new();
     let [high, low, batch @ ..] = input else {
-        return Text::of(b"no room\n");
+        text.put(b"no room\n");
+        return text;
     };
     if batch::MOST < batch.len() {
-        return Text::of(b"too long\n");
+        text.put(b"too long\n");
+        return text;
     }
     let mut out = [0xA5u8; OUTPUT];
-    shown(batch, &mut out[..room_of(*high, *low)])
+    shown(&mut text, batch, &mut out[..room_of(*high, *low)]);
+    text
 }

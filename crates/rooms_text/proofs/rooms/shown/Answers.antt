@@ -1,10 +1,9 @@
-use Rattle.text.proofs.Adding.{adds, whole}
-use Rattle.rooms_text.proofs.Shown.{shows, shown-has-room}
+use Rattle.text.proofs.Adding.{adds}
+use Rattle.rooms_text.proofs.Shown.{shows}
 use Rattle.rooms_text.proofs.rooms.shown.Goals as goal
 
 pub returns : goal.returns
 returns c =
     let a = c.args in
     let r = c.replay_fresh-replayed.ensures in
-    let all = shows a.batch.now a.out.now r.answer r.output (rw c.from.ensures at c.counts-told.ensures) (adds _ _ _ c.put_lines.ensures.put) (adds _ _ _ c.put_lines-2.ensures.put) in
-    whole c.new-text.ensures all (shown-has-room a.batch.now a.out.now c.requires.out_len_bound)
+    shows a.batch.now a.out.now r.answer r.output (rw c.from.ensures at c.counts-told.ensures) (adds _ _ _ c.put_lines.ensures.put) (adds _ _ _ c.put_lines-2.ensures.put)
