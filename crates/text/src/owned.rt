@@ -86,6 +86,14 @@ impl<const N: usize> Text<N> {
     {
         self.used = put_lines(&mut self.bytes, self.used, bytes);
     }
+
+    // Takes all its bytes out; zeros stand in their place.
+    pub fn clear(&mut self)
+        ensures { self.new ≡ [] }
+    {
+        self.bytes[..self.used].fill(0);
+        self.used = 0;
+    }
 }
 
 // A text's bytes.
