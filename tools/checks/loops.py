@@ -53,16 +53,17 @@ use std::convert::AsSlice;
 use std::io;
 use std::io::Write;
 use streams::{complain, read_input};
-use text::said;
+use text::{Text, said};
 
 fn all_calls(rt: &HostRuntime, list: &[u8]) -> io::Result<()> {
     let mut line = Line::fresh();
     let mut rest = list;
+    let mut text = Text::new();
     for _ in 0..list.len() {
-        let Some(made) = make(line, rest) else {
+        let Some(made) = make(line, rest, &mut text) else {
             break;
         };
-        Write::write_all(&mut rt.stdout(), made.text.as_slice())?;
+        Write::write_all(&mut rt.stdout(), text.as_slice())?;
         line = made.line;
         rest = &rest[made.used..];
     }

@@ -14,7 +14,6 @@ SUMS = {
     "crates/call_lists/specs/Lists.antt": "c8977b4e710028a5",
     "crates/control/specs/Write.antt": "86907988fb7a552a",
     "crates/controller/specs/Widths.antt": "498cbe1d3748fe80",
-    "crates/cuts_text/specs/Made.antt": "fa5e0dc538737a34",
     "crates/decimal/specs/Decimal.antt": "eed3c7c6caeaf1ef",
     "crates/demand/specs/Demand.antt": "9343e32fc3c1d653",
     "crates/demand/specs/Latches.antt": "253a368aa6beb395",

@@ -15,7 +15,7 @@ use Rattle.batch.specs.Fresh.{most_bytes}
 use Rattle.line.specs.Line.{fresh_line, outcome_of}
 use Rattle.line.specs.declared.calls.Line.{Line}
 use Rattle.cuts_text.specs.Asked.{call_head, cut_length, cut_of, first_of, length_of, list_in, is_list_of}
-use Rattle.cuts_text.specs.Made.{cut_text_of, text_shown, line_left, made_by, made_of}
+use Rattle.cuts_text.specs.Made.{cut_text_of, text_shown, line_left, made_by, made_of, text_by, call_text_of}
 use Rattle.cuts_text.specs.Whole.{text_then, calls_text_in, no_call, cuts_text_of}
 use Rattle.cuts_text.specs.declared.made.Made.{Made}
 use Rattle.cuts_text.specs.declared.asked.Asked.{Asked}
@@ -82,11 +82,15 @@ line-said l shut rest = refl
 line-said l (hand h) rest = ap (λ (b : List ℕ). (outcome_of l b (room_in h)).line) (cut-said h rest)
 
 made-said : (l : Line) (a : Ask) (rest : List ℕ)
-    → made_of l (bytes_in a ++ rest) ≡ Some (record { line = line_after l a; used = length_of (asked_of a); text = text_after l a })
+    → made_of l (bytes_in a ++ rest) ≡ Some (record { line = line_after l a; used = length_of (asked_of a) })
 unfolding made_of
 made-said l a rest =
     ap (made_by l (bytes_in a ++ rest)) (first_said a rest)
-    ∙ ap₂ (λ (k : Line) (w : List ℕ). Some (record { line = k; used = length_of (asked_of a); text = w })) (line-said l a rest) (text-said l a rest)
+    ∙ ap (λ (k : Line). Some (record { line = k; used = length_of (asked_of a) })) (line-said l a rest)
+
+shown-said : (l : Line) (a : Ask) (rest : List ℕ) → call_text_of l (bytes_in a ++ rest) ≡ text_after l a
+unfolding call_text_of
+shown-said l a rest = ap (text_by l (bytes_in a ++ rest)) (first_said a rest) ∙ text-said l a rest
 
 -- a list of calls is read as it was written
 list-said : (k : ℕ) (asks : List Ask) → length (list_of asks) ≤ k → list_in k (list_of asks) ≡ true
@@ -109,7 +113,7 @@ texts-goes k l a rest left =
     let all = bytes_in a ++ rest in
     let goes : Made → List ℕ = λ m. calls_text_in (k - 1) m.line (drop m.used all) in
     ap (λ (n : ℕ). calls_text_in n l all) e
-    ∙ ap (λ (o : Option Made). text_then o goes) (made-said l a rest)
+    ∙ ap₂ (λ (o : Option Made) (w : List ℕ). text_then o w goes) (made-said l a rest) (shown-said l a rest)
     ∙ ap (λ (w : List ℕ). text_after l a ++ calls_text_in (k - 1) (line_after l a) w) (past a rest)
 
 texts-none : (k : ℕ) (l : Line) → calls_text_in k l [] ≡ []

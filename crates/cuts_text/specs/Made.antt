@@ -1,5 +1,5 @@
 -- What the program `cuts` shows of a call (document 02, W3), in the form of `rooms`: the counts on a line, and of a cut the whole output.
-use Rattle.std.specs.Prelude.{ℕ, ◌≡◌, List, [], Option, Some, None, length, take, drop, replicate}
+use Rattle.std.specs.Prelude.{ℕ, List, [], Option, Some, None, length, take, drop, replicate}
 use Rattle.line.specs.CallEnding.{call_ending_number}
 use Rattle.line.specs.Line.{Outcome, outcome_of, closing_of}
 use Rattle.line.specs.declared.calls.Line.{Line}
@@ -40,16 +40,11 @@ line_left l rest (Cut room long) = (outcome_of l (cut_in rest long) room).line
 -- what is returned of a call, if there is one
 abbrev pub made_by : Line → List ℕ → Option Asked → Option Made
 made_by l rest None = None
-made_by l rest (Some a) = Some (record { line = line_left l rest a; used = length_of a; text = text_shown l rest a })
+made_by l rest (Some a) = Some (record { line = line_left l rest a; used = length_of a })
 
 -- the same of the call that bytes begin with
 unfoldable pub made_of : Line → List ℕ → Option Made
 made_of l rest = made_by l rest (first_of rest)
-
--- the text of what is returned: none where there is no call
-abbrev pub text_in : Option Made → List ℕ
-text_in None = []
-text_in (Some m) = m.text
 
 -- what is shown of a call, if there is one
 abbrev pub text_by : Line → List ℕ → Option Asked → List ℕ
@@ -59,10 +54,6 @@ text_by l rest (Some a) = text_shown l rest a
 -- the same of the call that bytes begin with
 unfoldable pub call_text_of : Line → List ℕ → List ℕ
 call_text_of l rest = text_by l rest (first_of rest)
-
--- in what is made of the call that bytes begin with stands that text
-abbrev pub TextMade : Line → List ℕ → Type 0
-TextMade l rest = text_in (made_of l rest) ≡ call_text_of l rest
 
 -- no text of a call is longer
 abbrev pub call_text_length : ℕ

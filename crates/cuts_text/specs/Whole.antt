@@ -5,18 +5,18 @@ use Rattle.basics.specs.Choice.{when◌then◌else◌}
 use Rattle.line.specs.Line.{fresh_line}
 use Rattle.line.specs.declared.calls.Line.{Line}
 use Rattle.cuts_text.specs.Asked.{is_list_of}
-use Rattle.cuts_text.specs.Made.{made_of}
+use Rattle.cuts_text.specs.Made.{call_text_of, made_of}
 use Rattle.cuts_text.specs.declared.made.Made.{Made}
 
 -- the text of a call, if there is one, and then what f gives of what it left
-abbrev pub text_then : Option Made → (Made → List ℕ) → List ℕ
-text_then None f = []
-text_then (Some m) f = m.text ++ f m
+abbrev pub text_then : Option Made → List ℕ → (Made → List ℕ) → List ℕ
+text_then None text f = []
+text_then (Some m) text f = text ++ f m
 
 -- call after call on one line, so many at the most, as long as there is one
 unfoldable pub calls_text_in : ℕ → Line → List ℕ → List ℕ
 calls_text_in zero l rest = []
-calls_text_in (suc k) l rest = text_then (made_of l rest) (λ (m : Made). calls_text_in k m.line (drop m.used rest))
+calls_text_in (suc k) l rest = text_then (made_of l rest) (call_text_of l rest) (λ (m : Made). calls_text_in k m.line (drop m.used rest))
 
 -- `no call`
 abbrev pub no_call : List ℕ

@@ -95,15 +95,19 @@ use Rattle.alone.proofs.on_reset.Reads as AloneOnReset
 use Rattle.alone.proofs.write.Reads as AloneWrite
 use Rattle.alone.proofs.clock.Reads as AloneClock
 use Rattle.alone.proofs.strike.Reads as AloneStrike
-use Rattle.text.proofs.owned.Text.put_hex.Reads as TextPutHex
-use Rattle.text.proofs.owned.Text.put_lines.Reads as TextPutLines
+use Rattle.text.proofs.put_hex.Reads as TextPutHex
+use Rattle.text.proofs.put_lines.Reads as TextPutLines
 use Rattle.text.proofs.owned.Text.new.Reads as TextNew
 use Rattle.text.proofs.owned.Text.of.Reads as TextOf
 use Rattle.text.proofs.owned.Text.room_left.Reads as TextRoomLeft
 use Rattle.text.proofs.owned.Text.put.Reads as TextPut
+use Rattle.text.proofs.owned.Text.put_hex.Reads as TextTextPutHex
+use Rattle.text.proofs.owned.Text.put_lines.Reads as TextTextPutLines
+use Rattle.text.proofs.owned.Text.clear.Reads as TextClear
 use Rattle.text.proofs.owned.TextAsSliceU8.as_slice.Reads as TextAsSlice
 use Rattle.text.proofs.said.Reads as TextSaid
 use Rattle.decimal.proofs.put_decimal.Reads as DecimalPutDecimal
+use Rattle.decimal.proofs.add_decimal.Reads as DecimalAddDecimal
 use Rattle.bodies.proofs.bus_answer.Reads as BodiesBusAnswer
 use Rattle.bodies.proofs.shown_answer.Reads as BodiesShownAnswer
 use Rattle.bodies.proofs.levels_answer.Reads as BodiesLevelsAnswer
@@ -117,6 +121,7 @@ use Rattle.replay.proofs.unread_rest.Reads as ReplayUnreadRest
 use Rattle.replay.proofs.replay.Reads as ReplayReplay
 use Rattle.batch.proofs.replay_fresh.Reads as BatchReplayFresh
 use Rattle.answer_lines.proofs.put_answers.Reads as AnswerLinesPutAnswers
+use Rattle.answer_lines.proofs.add_answers.Reads as AnswerLinesAddAnswers
 use Rattle.lister.proofs.list.Reads as ListerList
 use Rattle.rooms_text.proofs.room_of.Reads as RoomsTextRoomOf
 use Rattle.rooms_text.proofs.counts.Reads as RoomsTextCounts
@@ -414,11 +419,11 @@ alone-clock κs a x y s t p q = one_answer p q
 pub alone-strike : OneAnswer AloneStrike.Post (λ κs r s. r)
 alone-strike κs a x y s t p q = one_answer p q
 
-pub text-put-hex : (N : ℕ) (fits-N : Fits w64 N) → OneAnswer (TextPutHex.Post N fits-N) (λ κs r s. s.0.now beside s.1.0.now)
-text-put-hex N fits-N κs a x y s t p q = one_answer p.0 q.0 and one_answer p.1 q.1
+pub text-put-hex : OneAnswer TextPutHex.Post (λ κs r s. r beside s.0.now beside s.1.1.0.now)
+text-put-hex κs a x y s t p q = one_answer p.0 q.0 and one_answer p.1.0 q.1.0 and one_answer p.1.1.0 q.1.1.0
 
-pub text-put-lines : (N : ℕ) (fits-N : Fits w64 N) → OneAnswer (TextPutLines.Post N fits-N) (λ κs r s. s.0.now beside s.1.0.now)
-text-put-lines N fits-N κs a x y s t p q = one_answer p.0 q.0 and one_answer p.1 q.1
+pub text-put-lines : OneAnswer TextPutLines.Post (λ κs r s. r beside s.0.now beside s.1.1.0.now)
+text-put-lines κs a x y s t p q = one_answer p.0 q.0 and one_answer p.1.0 q.1.0 and one_answer p.1.1.0 q.1.1.0
 
 pub text-new : (N : ℕ) (fits-N : Fits w64 N) → OneAnswer (TextNew.Post N fits-N) (λ κs r s. r)
 text-new N fits-N κs a x y s t p q = one_answer p q
@@ -432,14 +437,26 @@ text-room-left N fits-N κs a x y s t p q = one_answer p.0 q.0 and one_answer p.
 pub text-put : (N : ℕ) (fits-N : Fits w64 N) → OneAnswer (TextPut.Post N fits-N) (λ κs r s. s.0.now beside s.1.0.now)
 text-put N fits-N κs a x y s t p q = one_answer p.0 q.0 and one_answer p.1 q.1
 
+pub text-Text-put-hex : (N : ℕ) (fits-N : Fits w64 N) → OneAnswer (TextTextPutHex.Post N fits-N) (λ κs r s. s.0.now beside s.1.0.now)
+text-Text-put-hex N fits-N κs a x y s t p q = one_answer p.0 q.0 and one_answer p.1 q.1
+
+pub text-Text-put-lines : (N : ℕ) (fits-N : Fits w64 N) → OneAnswer (TextTextPutLines.Post N fits-N) (λ κs r s. s.0.now beside s.1.0.now)
+text-Text-put-lines N fits-N κs a x y s t p q = one_answer p.0 q.0 and one_answer p.1 q.1
+
+pub text-clear : (N : ℕ) (fits-N : Fits w64 N) → OneAnswer (TextClear.Post N fits-N) (λ κs r s. s.0.now)
+text-clear N fits-N κs a x y s t p q = one_answer p q
+
 pub text-as-slice : (N : ℕ) (fits-N : Fits w64 N) → OneAnswer (TextAsSlice.Post N fits-N) (λ κs r s. r.now beside r.ref_ptr beside s.0.now)
 text-as-slice N fits-N κs a x y s t p q = one_answer p.0 q.0 and one_answer p.1.0 q.1.0 and one_answer p.1.1 q.1.1
 
 pub text-said : OneAnswer TextSaid.Post (λ κs r s. r.now beside r.ref_ptr beside s.1.0.now)
 text-said κs a x y s t p q = one_answer p.0 q.0 and one_answer p.1.0 q.1.0 and one_answer p.1.1 q.1.1
 
-pub decimal-put-decimal : (N : ℕ) (fits-N : Fits w64 N) → OneAnswer (DecimalPutDecimal.Post N fits-N) (λ κs r s. s.0.now)
-decimal-put-decimal N fits-N κs a x y s t p q = one_answer p q
+pub decimal-put-decimal : OneAnswer DecimalPutDecimal.Post (λ κs r s. r beside s.0.now)
+decimal-put-decimal κs a x y s t p q = one_answer p.0 q.0 and one_answer p.1.0 q.1.0
+
+pub decimal-add-decimal : (N : ℕ) (fits-N : Fits w64 N) → OneAnswer (DecimalAddDecimal.Post N fits-N) (λ κs r s. s.0.now)
+decimal-add-decimal N fits-N κs a x y s t p q = one_answer p q
 
 pub bodies-bus-answer : OneAnswer BodiesBusAnswer.Post (λ κs r s. r)
 bodies-bus-answer κs a x y s t p q = one_answer p q
@@ -477,8 +494,11 @@ replay-replay κs a x y s t p q = one_answer p.0 q.0 and one_answer p.1.0 q.1.0 
 pub batch-replay-fresh : OneAnswer BatchReplayFresh.Post (λ κs r s. r beside s.1.0.now beside s.0.now)
 batch-replay-fresh κs a x y s t p q = one_answer p.0 q.0 and one_answer p.1.0 q.1.0 and one_answer p.1.1.0 q.1.1.0
 
-pub answer-lines-put-answers : (N : ℕ) (fits-N : Fits w64 N) → OneAnswer (AnswerLinesPutAnswers.Post N fits-N) (λ κs r s. s.0.now beside s.1.0.now)
-answer-lines-put-answers N fits-N κs a x y s t p q = one_answer p.0 q.0 and one_answer p.1 q.1
+pub answer-lines-put-answers : OneAnswer AnswerLinesPutAnswers.Post (λ κs r s. r beside s.0.now beside s.1.1.0.now)
+answer-lines-put-answers κs a x y s t p q = one_answer p.0 q.0 and one_answer p.1.0 q.1.0 and one_answer p.1.1.0 q.1.1.0
+
+pub answer-lines-add-answers : (N : ℕ) (fits-N : Fits w64 N) → OneAnswer (AnswerLinesAddAnswers.Post N fits-N) (λ κs r s. s.0.now beside s.1.0.now)
+answer-lines-add-answers N fits-N κs a x y s t p q = one_answer p.0 q.0 and one_answer p.1 q.1
 
 pub lister-list : OneAnswer ListerList.Post (λ κs r s. r beside s.0.now)
 lister-list κs a x y s t p q = one_answer p.1.0 q.1.0 and one_answer p.1.1 q.1.1
@@ -522,8 +542,8 @@ cuts-text-refusal κs a x y s t p q = one_answer p q
 pub cuts-text-is-list : OneAnswer CutsTextIsList.Post (λ κs r s. r beside s.0.now)
 cuts-text-is-list κs a x y s t p q = one_answer p.0 q.0 and one_answer p.1 q.1
 
-pub cuts-text-make : OneAnswer CutsTextMake.Post (λ κs r s. r beside s.1.0.now)
-cuts-text-make κs a x y s t p q = one_answer p.1.0 q.1.0 and one_answer p.1.1.1.0 q.1.1.1.0
+pub cuts-text-make : OneAnswer CutsTextMake.Post (λ κs r s. r beside s.1.1.0.now beside s.1.0.now)
+cuts-text-make κs a x y s t p q = one_answer p.1.0 q.1.0 and one_answer p.1.1.0 q.1.1.0 and one_answer p.1.1.1.0 q.1.1.1.0
 
 pub setup-file-U8FromKind-from : OneAnswer SetupFileU8FromKindFrom.Post (λ κs r s. r)
 setup-file-U8FromKind-from κs a x y s t p q = one_answer p q

@@ -72,8 +72,7 @@ use Rattle.serial_text.specs.Ending.{last_text_of}
 use Rattle.serial_listing.specs.Printed.{PrintsTheListing}
 use Rattle.serial_listing.proofs.Printed.{prints}
 use Rattle.cuts_text.specs.Asked.{is_list_of}
-use Rattle.cuts_text.specs.Made.{made_of, text_in, call_text_of, TextMade}
-use Rattle.cuts_text.proofs.Shown.{text-made}
+use Rattle.cuts_text.specs.Made.{call_text_of, made_of}
 use Rattle.call_lists.specs.Lists.{Shows}
 use Rattle.call_lists.proofs.Lists.{shows}
 use Rattle.settled.specs.Cases.{Settled}
@@ -324,11 +323,8 @@ cuts-listed κs a r s p = p.0
 pub cuts-made : States of-cuts_text-make.Post (λ κs a r s. r ≡ made_of a.0 a.1.0.now)
 cuts-made κs a r s p = p.1.0
 
-pub cuts-text : States of-cuts_text-make.Post (λ κs a r s. text_in r ≡ call_text_of a.0 a.1.0.now)
+pub cuts-text : States of-cuts_text-make.Post (λ κs a r s. s.1.1.0.now ≡ call_text_of a.0 a.1.0.now)
 cuts-text κs a r s p = p.1.1.0
-
-pub cuts-made-text : (l : Line) (rest : List ℕ) → TextMade l rest
-cuts-made-text = text-made
 
 pub cuts-shown : (input : List ℕ) → Shows input
 cuts-shown = shows

@@ -1,5 +1,5 @@
 -- What the functions of `cuts_text` say to one another.
-use Rattle.std.specs.Prelude.{ℕ, ◌+◌, ◌≤◌, List}
+use Rattle.std.specs.Prelude.{ℕ, ◌+◌, ◌≤◌}
 use Rattle.batch.specs.Fresh.{most_output}
 use Rattle.line.specs.declared.calls.Line.{Line}
 use Rattle.cuts_text.specs.Asked.{call_head}
@@ -16,6 +16,6 @@ abbrev pub Within : Asked → ℕ → Type 0
 Within Close n = 1 ≤ n
 Within (Cut room long) n = (room ≤ most_output) × (call_head + long ≤ n)
 
--- a call that was made: the line after it, the bytes that said it, and its text
-abbrev pub shown_as : Line → ℕ → List ℕ → Made
-shown_as line used text = record { line = line; used = used; text = text }
+-- a call that was made: the line after it, and the bytes that said it
+abbrev pub shown_as : Line → ℕ → Made
+shown_as line used = record { line = line; used = used }

@@ -17,5 +17,6 @@ overflow_cast-called-2 c =
 pub returns : goal.returns
 returns c =
     let a = c.args in
-    accepts a.before a.cut.now a.out.now c.new-text.ensures c.requires.out_len_bound c.accept-called.ensures.answer c.accept-called.ensures.output
-    (rw c.from-ending.ensures at c.counts-told.ensures) (adds _ _ _ c.put_lines.ensures.put) (adds _ _ _ c.put_lines-2.ensures.put)
+    let t = accepts a.before a.cut.now a.out.now c.accept-called.ensures.answer c.accept-called.ensures.output (rw c.from-ending.ensures at c.counts-told.ensures)
+    (adds _ _ _ c.put_lines.ensures.put) (adds _ _ _ c.put_lines-2.ensures.put) in
+    record { made = t.0; text = t.1 }

@@ -3,4 +3,6 @@ use Rattle.cuts_text.proofs.Making.{closes}
 use Rattle.cuts_text.proofs.made.closed.Goals as goal
 
 pub returns : goal.returns
-returns c = closes c.args.before c.new-text.ensures c.close-called.ensures (rw c.from.ensures at c.counts.ensures) (adds _ _ _ c.put_lines.ensures.put)
+returns c =
+    let t = closes c.args.before c.close-called.ensures (rw c.from.ensures at c.counts.ensures) (adds _ _ _ c.put_lines.ensures.put) in
+    record { made = t.0; text = t.1 }
