@@ -16,7 +16,7 @@ loop-answer-preserved g c =
     let so_far = c.loop-answer.invariant in
     let steps = c.in-Some.ensures.steps in
     let chunk = rw so_far.2 at steps.1 in
-    let line = adds _ _ _ (rw (c.as_slice.ensures ∙ c.line.ensures) at c.put.ensures.put) in
+    let line = adds _ _ _ (rw (c.as_slice.ensures.bytes ∙ c.line.ensures) at c.put.ensures.put) in
     (search rules, tt, steps.0 ∙ so_far.2, turned so_far.3 (rows-exact marked_of _ _ _ chunk.0 chunk.1) line)
 
 pub returns-clause-put : goal.returns-clause-put

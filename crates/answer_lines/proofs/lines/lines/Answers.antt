@@ -15,4 +15,4 @@ loop-i-preserved c =
     let l = c.loop-i in
     let answers = c.args.answers.now in
     let part = row-part answers l.i (per_line * l.i + per_line) (omega arith) (omega arith) in
-    writes-row marked_of l.i answers l.invariant (rw (c.as_slice.ensures ∙ c.line.ensures) at c.put-q.ensures.next) part
+    writes-row marked_of l.i answers l.invariant (rw (c.as_slice.ensures.bytes ∙ c.line.ensures) at c.put-q.ensures.next) part
