@@ -16,7 +16,7 @@ BASE = {
     ("Rattle.basics.specs.Lay", "laid_at"), ("Rattle.replay.specs.Run", "run_of"),
     ("Rattle.frames.specs.Calls", "Call"), ("Rattle.frames.specs.Calls", "after_calls"), ("Rattle.control.specs.Write", "is_control_of"),
     ("Rattle.control.specs.declared.bits.Control", "Control"), ("Rattle.bench.specs.declared.step.Bench", "Bench"),
-    ("Rattle.line.specs.declared.calls.Line", "Line"), ("Rattle.cuts_text.specs.Made", "text_in"), STATES,
+    ("Rattle.line.specs.declared.calls.Line", "Line"), STATES,
 }
 # The library's own words by the names of the modules that declare them, from which a proof may bring them too.
 BASE |= {
@@ -28,7 +28,7 @@ ABOUT = ("ℕ", "List ℕ", "List Call", "Bench", "Control", "Line")
 PREMISES = ("is_control_of a ≡ true",)
 # What a contract speaks of: the result, its bytes or its place, the text in it, or what a lent buffer holds afterwards; and of it, by the
 # arguments.
-GIVEN = re.compile(r"r|r\.now|r\.ref_ptr|r\.text|text_in r|s(?:\.\d+)+\.now")
+GIVEN = re.compile(r"r|r\.now|r\.ref_ptr|r\.text|s(?:\.\d+)+\.now")
 ARGUMENT = r"a(?:\.\d+)+(?:\.[a-z]\w*)?"  # a field of it too, as of a record's four bytes
 TERM = rf"([^\s()]+)((?: {ARGUMENT})*)"
 DUE = tuple(re.compile(form) for form in (TERM, rf"length \({TERM}\)", rf"laid_at {ARGUMENT} 0 \({TERM}\)"))

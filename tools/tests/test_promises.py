@@ -119,14 +119,11 @@ class Promises(DocsTest):
         self.assertRight()
 
     def test_a_contract_by_the_text_in_its_answer(self):
-        for given in ("r.text", "text_in r"):
-            with self.subTest(given):
-                self.files[FILE] = FILES[FILE]
-                self.edit(FILE, "(r ≡ one_of a.0) ×", f"({given} ≡ one_of a.0) ×")
-                self.assertRight()
+        self.edit(FILE, "(r ≡ one_of a.0) ×", "(r.text ≡ one_of a.0) ×")
+        self.assertRight()
 
     def test_a_contract_by_something_else_of_its_answer(self):
-        for given in ("r.long", "r.text.now", "text_in a.0", "length r.text", "first r", "text_of r"):
+        for given in ("r.long", "r.text.now", "length r.text", "first r", "text_of r"):
             with self.subTest(given):
                 self.files[FILE] = FILES[FILE]
                 self.assertFile("(r ≡ one_of a.0) ×", f"({given} ≡ one_of a.0) ×", "which is neither the result nor what a buffer holds afterwards")
