@@ -19,14 +19,14 @@ pub enum Fit {
 }
 
 impl Fit {
-    // The answer for two lists one after the other.
+    // The answer for two lists one after the other. The second is looked at first, since most rows add none: so these cost the least.
     #[tactic(auto, unfolding(crate::specs::private::Search::joined_of))]
     pub(crate) fn join(self, next: Fit) -> Fit
         ensures { result ≡ joined_of self next }
     {
         match (self, next) {
-            (Fit::Free, other) => other,
             (one, Fit::Free) => one,
+            (Fit::Free, other) => other,
             _ => Fit::Many,
         }
     }
@@ -53,11 +53,11 @@ fn from_low(start: u16, latch: u16) -> u16
     latch.wrapping_sub(start).wrapping_sub(2) % 256
 }
 
-impl Row {
+impl Row<'_> {
     // The one column of a row that can fit, of those two or more before the line's end.
     #[inline(always)]
     fn only_column(self) -> u16
-        ensures { (x : ℕ) → x + 2 ≤ reg self.registers 0 → x + 2 < 256 → fits_of self.registers self.latch (cell_at self.number x) ≡ true → x ≡ result }
+        ensures { (x : ℕ) → x + 2 ≤ reg self.entry.registers.now 0 → x + 2 < 256 → fits_of self.entry.registers.now self.entry.latch (cell_at self.entry.number x) ≡ true → x ≡ result }
     {
         if self.registers.by_rows() {
             return from_low(self.registers.start(), self.latch);
@@ -68,9 +68,9 @@ impl Row {
     // Which cells of a row fit, of those two or more before the line's end. Their lines latch alike, so the first tells.
     #[inline(always)]
     fn front_fit(self, front: u8) -> Fit
-        requires value { front ≡ front_of self.registers }
+        requires value { front ≡ front_of self.registers.now }
         requires upper_bound { front < 255 }
-        ensures { result ≡ part_fit_of self.registers self.latch self.number 0 front }
+        ensures { result ≡ part_fit_of self.entry.registers.now self.entry.latch self.entry.number 0 front }
     {
         let only = self.only_column();
         if only < u16::from(front) {
@@ -80,10 +80,10 @@ impl Row {
         Fit::Free
     }
 
-    // Which cells of a row fit, from one column on up to below another.
-    #[inline(always)]
+    // Which cells of a row fit, from one column on up to below another. It has no hint on inlining, nor has line_fits: either one makes the
+    // search slower.
     fn part_fit(self, from: u8, to: u8) -> Fit
-        ensures { result ≡ part_fit_of self.registers self.latch self.number from (to - from) }
+        ensures { result ≡ part_fit_of self.entry.registers.now self.entry.latch self.entry.number from (to - from) }
     {
         let mut best = Fit::Free;
         for column in from..to {
@@ -96,7 +96,7 @@ impl Row {
     // row's, or of a new frame's; from there counted two back, that is a column round the end. Where a line has one character it is not asked.
     #[inline(always)]
     fn ends_may_fit(self) -> bool
-        ensures { result ≡ false → (x : ℕ) → x ≤ reg self.registers 0 → reg self.registers 0 < x + 2 → reg self.registers 0 < 256 → fits_of self.registers self.latch (cell_at self.number x) ≢ true }
+        ensures { result ≡ false → (x : ℕ) → x ≤ reg self.entry.registers.now 0 → reg self.entry.registers.now 0 < x + 2 → reg self.entry.registers.now 0 < 256 → fits_of self.entry.registers.now self.entry.latch (cell_at self.entry.number x) ≢ true }
     {
         let r = self.registers;
         if r.held[0] == 0 {
@@ -113,10 +113,10 @@ impl Row {
     // Which cells of a row fit: of the columns in front, and of the others. How many there are of both is worked out once for all rows.
     #[inline(always)]
     fn row_fit(self, front: u8, columns: u8) -> Fit
-        requires front_value { front ≡ front_of self.registers }
+        requires front_value { front ≡ front_of self.registers.now }
         requires front_bound { front < 255 }
-        requires columns_value { columns ≡ columns_of self.registers }
-        ensures { result ≡ row_fit_of self.registers self.latch self.number }
+        requires columns_value { columns ≡ columns_of self.registers.now }
+        ensures { result ≡ row_fit_of self.entry.registers.now self.entry.latch self.entry.number }
     {
         let fit = self.front_fit(front);
         if front < columns && self.ends_may_fit() {
@@ -136,7 +136,7 @@ pub(crate) fn picture_fit(registers: Registers, latch: u16) -> Fit
     let mut base = first_base(registers);
     for number in 0..rows(registers) {
         let row = Row {
-            registers,
+            registers: &registers,
             latch,
             number,
             base,

@@ -10,13 +10,14 @@ use crate::cells::Cell;
 use raster::{Registers, Scan};
 
 // The search comes from the row above with the address that this one begins with, so that nothing has to be multiplied.
+// The registers are lent to it: by value they would be copied in every row.
 #[derive(Clone, Copy)]
-pub(crate) struct Row {
-    pub(crate) registers: Registers,
+pub(crate) struct Row<'a> {
+    pub(crate) registers: &'a Registers,
     pub(crate) latch: u16,
     pub(crate) number: u8,
     pub(crate) base: u16,
-    ghost begins: { base ≡ row_base_of registers number },
+    ghost begins: { base ≡ row_base_of registers.now number },
 }
 
 // The address that the first row begins with.
@@ -26,18 +27,18 @@ pub(crate) fn first_base(r: Registers) -> u16
     r.start() % 16384
 }
 
-impl Row {
+impl Row<'_> {
     // The address that the next row begins with: R1 on.
     #[inline(always)]
     pub(crate) fn next_base(self) -> u16
-        ensures { result ≡ counted_of Fourteen self.base (reg self.registers 1) }
+        ensures { result ≡ counted_of Fourteen self.entry.base (reg self.entry.registers.now 1) }
     {
         self.base.wrapping_add(u16::from(self.registers.held[1])) % 16384
     }
 
     #[inline(always)]
     pub(crate) fn cell(self, column: u8) -> Cell
-        ensures { result ≡ cell_at self.number column }
+        ensures { result ≡ cell_at self.entry.number column }
     {
         Cell {
             row: self.number,
@@ -48,7 +49,7 @@ impl Row {
     // The place of the scan in a cell, on one of its lines.
     #[inline(always)]
     fn cell_scan(self, column: u8, line: u8) -> Scan
-        ensures { result ≡ cell_scan_of self.registers (cell_at self.number column) line }
+        ensures { result ≡ cell_scan_of self.entry.registers.now (cell_at self.entry.number column) line }
     {
         Scan {
             column,
@@ -63,18 +64,17 @@ impl Row {
 
     // Whether a strike in a cell, on one of its lines, would leave the latch.
     #[tactic(auto, unfolding(crate::specs::private::Search::line_fits_of, crate::specs::Cells::cell_latch_of))]
-    #[inline(always)]
     pub(crate) fn line_fits(self, column: u8, line: u8) -> bool
-        ensures { result ≡ line_fits_of self.registers self.latch (cell_at self.number column) line }
+        ensures { result ≡ line_fits_of self.entry.registers.now self.entry.latch (cell_at self.entry.number column) line }
     {
-        facts::latch(self.registers, self.cell_scan(column, line)) == self.latch
+        facts::latch(*self.registers, self.cell_scan(column, line)) == self.latch
     }
 
     // Whether a strike in a cell, on any of its lines, would leave the latch. The last line may lead to another row, and those before it
     // latch alike; but where a line has one character, the one before the last may lead there too.
     #[inline(always)]
     pub(crate) fn cell_fits(self, column: u8) -> bool
-        ensures { result ≡ fits_of self.registers self.latch (cell_at self.number column) }
+        ensures { result ≡ fits_of self.entry.registers.now self.entry.latch (cell_at self.entry.number column) }
     {
         let last = self.registers.held[9];
         let near = self.line_fits(column, last.saturating_sub(1)) | self.line_fits(column, last);

@@ -11,7 +11,7 @@ returns-then-by_rows c e x h k n f =
     let row = c.args.self in
     let low = c.from_low.ensures ∙ ap (λ (t : ℕ). from_low_of t row.latch) c.start.ensures in
     true≢false
-    (sym (low_near row.registers row.number c.if-r-eq0.false n x row.latch h k f (sym c.by_rows.ensures ∙ c.if-by_rows.true))
+    (sym (low_near row.registers.now row.number c.if-r-eq0.false n x row.latch h k f (sym c.by_rows.ensures ∙ c.if-by_rows.true))
     ∙ sym (ap (leb 254) low) ∙ e)
 
 pub returns : goal.returns
@@ -20,8 +20,8 @@ returns c e x h k n f =
     let first = c.from_base.ensures ∙ ap (λ (b : ℕ). from_base_of b row.latch) row.begins in
     let second =
     c.from_base-2.ensures
-    ∙ ap (λ (b : ℕ). from_base_of b row.latch) (c.next_base.ensures ∙ ap (λ (b : ℕ). counted_of Fourteen b (reg row.registers 1)) row.begins) in
+    ∙ ap (λ (b : ℕ). from_base_of b row.latch) (c.next_base.ensures ∙ ap (λ (b : ℕ). counted_of Fourteen b (reg row.registers.now 1)) row.begins) in
     let third = c.from_base-3.ensures ∙ ap (λ (b : ℕ). from_base_of b row.latch) c.start-2.ensures in
     true≢false
-    (sym (base-near row.registers row.number c.if-r-eq0.false n x row.latch h k f (sym c.by_rows.ensures ∙ c.if-by_rows.false))
+    (sym (base-near row.registers.now row.number c.if-r-eq0.false n x row.latch h k f (sym c.by_rows.ensures ∙ c.if-by_rows.false))
     ∙ rw (← first, ← second, ← third) e)

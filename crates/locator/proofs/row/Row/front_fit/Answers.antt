@@ -11,11 +11,11 @@ returns-then-only-from c =
     let row = c.args.self in
     let cell = cell_at row.number only.result in
     rw (c.cell.ensures, c.line_fits.ensures) at c.one_fit.ensures
-    ∙ ap (λ (b : Bool). one_fit_of b cell) (sym (first-line row.registers row.latch cell (omega arith) (omega arith)))
-    ∙ sym (only-inside row.registers row.latch row.number only.result c.args.front (omega arith) (λ x h e. only.ensures x (omega arith) (omega arith) e))
+    ∙ ap (λ (b : Bool). one_fit_of b cell) (sym (first-line row.registers.now row.latch cell (omega arith) (omega arith)))
+    ∙ sym (only-inside row.registers.now row.latch row.number only.result c.args.front (omega arith) (λ x h e. only.ensures x (omega arith) (omega arith) e))
 
 pub returns : goal.returns
 returns c =
     let only = c.only_column-only in
     let row = c.args.self in
-    sym (only-outside row.registers row.latch row.number only.result c.args.front (omega arith) (λ x h e. only.ensures x (omega arith) (omega arith) e))
+    sym (only-outside row.registers.now row.latch row.number only.result c.args.front (omega arith) (λ x h e. only.ensures x (omega arith) (omega arith) e))
