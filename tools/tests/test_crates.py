@@ -40,9 +40,11 @@ class Streams(ContractsTest):
         self.assertRight()
 
     def test_other_words(self):
-        for old, new in (("Err(_) => return Ok(n)", "Err(_) => return Ok(0)"), ("buf[n..]", "buf[..]"), ("from.read(&mut [])?;", "from.read(&mut [])?; return Ok(0);"),
+        for old, new in (("Err(_) => return n", "Err(_) => return 0"), ("buf[n..]", "buf[..]"), ("from.read(&mut [])?;", "from.read(&mut [])?; return Ok(0);"),
                          ("said(readable, text.as_slice())", "said(readable & (came.is_ok()), text.as_slice())"), ("said(!written, unwritten)", "said(written, unwritten)"),
-                         ("use std::io::{Read, Write};", "use alpha::{Read, Write};"), ("IfOk result (λ n. n ≤ length buf.new)", "0 ≡ 0")):
+                         ("use std::io::{Read, Write};", "use alpha::{Read, Write};"), ("IfOk result (λ n. n ≤ length buf.new)", "0 ≡ 0"),
+                         ("ensures { result ≤ length buf.new }", "ensures { 0 ≡ 0 }"), ("Ok(read_full(from, buf))", "Ok(0)"),
+                         ("Write::write_all(&mut rt.stdout(), said", "rt.stdout().write_all(said")):
             with self.subTest(new):
                 self.files[self.LIB] = fixed.STREAMS
                 self.edit(self.LIB, old, new)
