@@ -17,6 +17,7 @@ from checks import crates, edits
 from commands import CannotRun
 
 AT_ONCE = 2  # a check takes a gigabyte or two
+SHARED = "several functions are named `"  # what rt check says where a name is that of two
 HOLDS_BUILT = "rlib"  # in a crate's out/: the library, as rt builds it for the crates above
 
 
@@ -46,13 +47,14 @@ def copied(top, crate, folder):
 
 
 def checked(folder, places):
-    """What rt check says of the crate in a folder, of some functions alone or of all."""
+    """What rt check says of the crate in a folder, of some functions alone or of all. Where two functions share a name it is asked for all."""
     words = [word for place in dict.fromkeys(places) for word in ("--only", place)] if all(places) else []
     try:
         done = subprocess.run(["rt", "check", *words], cwd=folder, stdin=subprocess.DEVNULL, stdout=subprocess.PIPE, stderr=subprocess.STDOUT)
     except OSError as problem:
         raise CannotRun(f"cannot run rt: {problem.strerror}") from problem
-    return done.stdout.decode(errors="replace")
+    said = done.stdout.decode(errors="replace")
+    return checked(folder, [""]) if words and SHARED in said else said
 
 
 def tried(top, crate, paths, whole):

@@ -222,6 +222,13 @@ class Tried(EditsTest):
         self.assertIn("crates/alpha check --only one\n", calls)
         self.assertIn("crates/alpha check\n", calls)  # of a definition there is no function
 
+    def test_a_name_of_two_functions(self):
+        self.files["log"] = "rattle: error: several functions are named `one`: help: write one of `alpha::one`, `alpha::two::one`\n"
+        wrong, _counts, calls = self.tries(whole=False)
+        self.assertEqual(calls.count("crates/alpha check --only one\n"), 1)
+        self.assertEqual(calls.count("crates/alpha check\n"), 2)  # of that edit too all is asked then
+        self.assertEqual(len(wrong), 2)  # and once only: what is said is no refusal
+
     def test_what_is_built_before(self):
         self.files["crates.txt"] = "base:\nbelow: base\nother:\nalpha: below\nabove: alpha other\n"
         self.write()
