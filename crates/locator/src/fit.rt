@@ -80,8 +80,8 @@ impl Row<'_> {
         Fit::Free
     }
 
-    // Which cells of a row fit, from one column on up to below another. It has no hint on inlining, nor has line_fits: either one makes the
-    // search slower.
+    // Which cells of a row fit, from one column on up to below another.
+    #[inline(always)]
     fn part_fit(self, from: u8, to: u8) -> Fit
         ensures { result ≡ part_fit_of self.entry.registers.now self.entry.latch self.entry.number from (to - from) }
     {
@@ -94,7 +94,7 @@ impl Row<'_> {
 
     // Whether one of the line's last two columns can fit. They latch the first or second address of a line: of the row's own, of the next
     // row's, or of a new frame's; from there counted two back, that is a column round the end. Where a line has one character it is not asked.
-    #[inline(always)]
+    // It has no hint on inlining, nor has line_fits: with one the search is slower.
     fn ends_may_fit(self) -> bool
         ensures { result ≡ false → (x : ℕ) → x ≤ reg self.entry.registers.now 0 → reg self.entry.registers.now 0 < x + 2 → reg self.entry.registers.now 0 < 256 → fits_of self.entry.registers.now self.entry.latch (cell_at self.entry.number x) ≢ true }
     {
